@@ -15,14 +15,15 @@ use Rattle.sy_site.specs.Sites.{Site, plan_at}
 use Rattle.sy_site.specs.machine.Findings.{HoldsAt, Kind, MayRun}
 use Rattle.sy_site.specs.machine.Lawful.{IsInput, IsLawful}
 use Rattle.sy_site.specs.machine.Reach.{Follows, MayDo, list_of}
-use Rattle.sy_checker.specs.declared.flows.executed.Executed.TheVariants as executed
-use Rattle.sy_checker.specs.internal.Course.{AreAlike, AreClean}
+use Rattle.sy_flows.specs.declared.flows.executed.Executed.TheVariants as executed
+use Rattle.sy_flows.specs.internal.Alike.{AreAlike}
+use Rattle.sy_checker.specs.internal.Course.{AreClean}
 use Rattle.sy_checker.specs.internal.Discarding.{DiscardsNone, IsCleanUpTo}
-use Rattle.sy_checker.specs.internal.Flows.{is_used}
-use Rattle.sy_checker.proofs.Alike.{firm_to}
-use Rattle.sy_checker.proofs.Followed.{followed_by, posts_used}
-use Rattle.sy_checker.proofs.There.{reach_there}
-use Rattle.sy_checker.proofs.Used.{input_list, input_used}
+use Rattle.sy_flows.specs.Flows.{is_used}
+use Rattle.sy_flows.proofs.Alike.{firm_to}
+use Rattle.sy_fit.proofs.Followed.{followed_by, posts_used}
+use Rattle.sy_flows.proofs.There.{reach_there}
+use Rattle.sy_flows.proofs.Used.{input_list, input_used}
 
 module _ (site : Site) (law : IsLawful site) (one other : Class) (same : AreAlike site one other)
     (discards_to : (relay queue : ℕ) → MayDiscard (plan_at site relay) one queue → MayDiscard (plan_at site relay) other queue) where

@@ -16,12 +16,12 @@ use Rattle.sy_site.specs.machine.Soundness.{IsSound, IsSoundFor}
 use Rattle.sy_site.proofs.machine.Spares.{reach_every, reaches_every}
 use Rattle.sy_site.proofs.machine.Ways.{way_to}
 use Rattle.sy_checker.specs.internal.Loops.{IsTrail, relays_of}
-use Rattle.sy_checker.specs.internal.Leads.{list_at}
+use Rattle.sy_flows.specs.Leads.{list_at}
 use Rattle.sy_checker.proofs.Leading.{next_of}
 use Rattle.sy_checker.proofs.LeadsDecided.{leads_or_not}
-use Rattle.sy_checker.proofs.Led.{list_there}
-use Rattle.sy_checker.proofs.Listing.{In, and_first, and_second, both_true, flat, flat_has, flat_is, in_cases, in_left, in_list, in_right, of_list, or_cases, or_left, or_right, some, some_has, some_is}
-use Rattle.sy_checker.proofs.There.{entry_there}
+use Rattle.sy_flows.proofs.Led.{list_there}
+use Rattle.sy_fit.proofs.Listing.{In, and_first, and_second, both_true, flat, flat_has, flat_is, in_cases, in_left, in_list, in_right, of_list, or_cases, or_left, or_right, some, some_has, some_is}
+use Rattle.sy_flows.proofs.There.{entry_there}
 use Rattle.sy_checker.proofs.Trails.{first_trail, loops, short, trail_on}
 
 -- ---- numbers

@@ -15,15 +15,15 @@ use Rattle.sy_site.specs.machine.Findings.{HoldsAt, Kind}
 use Rattle.sy_site.specs.machine.Lawful.{IsLawful}
 use Rattle.sy_site.specs.machine.Reach.{PostsOn, Reach, list_of}
 use Rattle.sy_site.specs.declared.site.SiteInput.{SiteInput}
-use Rattle.sy_checker.specs.declared.rows.wanted.InnerList.{InnerList}
-use Rattle.sy_checker.specs.Fit.{IsInner}
-use Rattle.sy_checker.specs.internal.Hops.{AreApart}
+use Rattle.sy_flows.specs.declared.lists.InnerList.{InnerList}
+use Rattle.sy_fit.specs.Fit.{IsInner}
+use Rattle.sy_flows.specs.Hops.{AreApart}
 use Rattle.sy_checker.specs.internal.Inner.{AreNumbers, PostsTo}
-use Rattle.sy_checker.proofs.InnerLists.{inner_on, last_post, on, on_follows, posts_join}
+use Rattle.sy_fit.proofs.InnerLists.{inner_on, last_post, on, on_follows, posts_join}
 use Rattle.sy_checker.proofs.InnersDecided.{next, next_has, next_is}
-use Rattle.sy_checker.proofs.Listing.{In}
-use Rattle.sy_checker.proofs.Used.{posted_there}
-use Rattle.sy_checker.proofs.Walking.{apart_room, more_apart, none_apart}
+use Rattle.sy_fit.proofs.Listing.{In}
+use Rattle.sy_flows.proofs.Used.{posted_there}
+use Rattle.sy_flows.proofs.Walking.{apart_room, more_apart, none_apart}
 
 -- ---- sums
 

@@ -17,27 +17,28 @@ use Rattle.sy_site.specs.machine.Reach.{Reach, list_of, onward}
 use Rattle.sy_site.specs.machine.Soundness.{AreRanks, IsSound}
 use Rattle.sy_board.proofs.relay.Keeps.{Each, each_append}
 use Rattle.sy_site.proofs.machine.NoFinding.{no_finding}
-use Rattle.sy_checker.specs.Fit.{AreFit, AreRight, AreWanted, ComesBefore, IsFit, IsInner, ListsAll, StandsBefore, paths}
+use Rattle.sy_fit.specs.Fit.{AreFit, AreRight, AreWanted, ComesBefore, IsFit, IsInner, ListsAll, StandsBefore, paths}
 use Rattle.sy_site.specs.Names.{action_name, name_of, port_of}
-use Rattle.sy_checker.specs.internal.Found.{AreProtectedBelow, AreRelays, AreRest, AreSorted, IsRest, same_input}
+use Rattle.sy_fit.specs.internal.Order.{AreProtectedBelow, AreRelays, AreRest, AreSorted, IsRest}
+use Rattle.sy_flows.specs.Members.{same_input}
 use Rattle.sy_checker.specs.internal.Made.{IsMade, IsMadeAt}
-use Rattle.sy_checker.specs.declared.rows.wanted.InnerList.{InnerList}
-use Rattle.sy_checker.specs.internal.Inners.{AreInners}
-use Rattle.sy_checker.specs.declared.rows.wanted.Wanted.{Wanted}
-use Rattle.sy_checker.specs.declared.rows.wanted.Wanted.TheVariants as wanted
+use Rattle.sy_flows.specs.declared.lists.InnerList.{InnerList}
+use Rattle.sy_fit.specs.internal.Inners.{AreInners}
+use Rattle.sy_fit.specs.declared.rows.wanted.Wanted.{Wanted}
+use Rattle.sy_fit.specs.declared.rows.wanted.Wanted.TheVariants as wanted
 use Rattle.sy_checker.proofs.Complete.{reached_list}
 use Rattle.sy_checker.proofs.Falling.{numbers}
-use Rattle.sy_checker.proofs.Found.{not_among, same_is}
-use Rattle.sy_checker.proofs.InnerLists.{on}
-use Rattle.sy_checker.proofs.InnersSorted.{inner_push, inner_skip, inners_all, inners_first, inners_relay}
+use Rattle.sy_flows.proofs.FoundInputs.{not_among, same_is}
+use Rattle.sy_fit.proofs.InnerLists.{on}
+use Rattle.sy_fit.proofs.InnersSorted.{inner_push, inner_skip, inners_all, inners_first, inners_relay}
 use Rattle.sy_checker.proofs.InnersDecided.{is_inner}
-use Rattle.sy_checker.proofs.PathsLead.{lead_path}
-use Rattle.sy_checker.proofs.Joined.{are_wanted}
-use Rattle.sy_checker.proofs.Numbered.{class_push, class_skip, classes_all, classes_first}
+use Rattle.sy_fit.proofs.PathsLead.{lead_path}
+use Rattle.sy_fit.proofs.Joined.{are_wanted}
+use Rattle.sy_fit.proofs.Numbered.{class_push, class_skip, classes_all, classes_first}
 use Rattle.sy_checker.proofs.PartsJoined.{right_append}
 use Rattle.sy_checker.proofs.RowsMade.{are_right}
-use Rattle.sy_checker.proofs.Sorted.{has_input, next_relay, no_input, relay_push, relay_skip, relays_all, relays_first, rest_all, rest_first, rest_push, rest_relay, rest_skip, sorted_all, sorted_first, sorted_push, sorted_skip}
-use Rattle.sy_checker.proofs.There.{place_there, reach_there, relay_there}
+use Rattle.sy_fit.proofs.InOrder.{has_input, next_relay, no_input, relay_push, relay_skip, relays_all, relays_first, rest_all, rest_first, rest_push, rest_relay, rest_skip, sorted_all, sorted_first, sorted_push, sorted_skip}
+use Rattle.sy_flows.proofs.There.{place_there, reach_there, relay_there}
 
 each_from : {A : Type 0} (P : A → Type 0) (xs : List A) → ((x : A) → Contains xs x → P x) → Each P xs
 each_from P [] f = tt

@@ -7,9 +7,9 @@ use Rattle.sy_wire.specs.declared.class.Class.{Class}
 use Rattle.sy_site.specs.declared.site.SiteInput.{SiteInput}
 use Rattle.sy_site.specs.Sites.{Site}
 use Rattle.sy_site.specs.machine.Reach.{list_of}
-use Rattle.sy_checker.specs.declared.flows.executed.Executed.TheVariants as executed
-use Rattle.sy_checker.specs.declared.flows.Hop.{Hop}
-use Rattle.sy_checker.specs.internal.Hops.{AreHops}
+use Rattle.sy_flows.specs.declared.flows.executed.Executed.TheVariants as executed
+use Rattle.sy_flows.specs.declared.flows.Hop.{Hop}
+use Rattle.sy_flows.specs.Hops.{AreHops}
 use Rattle.sy_checker.specs.internal.Loops.{IsHeight, IsHeightOf, rank_at}
 
 pub height_none : (ranks : List ℕ) (hops : List Hop) → IsHeightOf ranks (take 0 hops) 0

@@ -14,14 +14,14 @@ use Rattle.sy_site.specs.declared.site.SiteInput.{SiteInput}
 use Rattle.sy_site.specs.Sites.{Site, plan_at}
 use Rattle.sy_site.specs.machine.Lawful.{IsLawful}
 use Rattle.sy_site.specs.machine.Reach.{PostsOn, Reach, list_of}
-use Rattle.sy_checker.specs.Fit.{IsInner}
-use Rattle.sy_checker.specs.internal.Hops.{AreApart}
+use Rattle.sy_fit.specs.Fit.{IsInner}
+use Rattle.sy_flows.specs.Hops.{AreApart}
 use Rattle.sy_checker.specs.internal.Inner.{PostsTo}
-use Rattle.sy_checker.proofs.InnerLists.{on, posts_join}
+use Rattle.sy_fit.proofs.InnerLists.{on, posts_join}
 use Rattle.sy_checker.proofs.Leading.{executes, executes_has, executes_is, inners, inners_has, inners_is}
-use Rattle.sy_checker.proofs.Listing.{In, and_first, and_second, both_true, flat, flat_has, flat_is, in_cases, in_left, in_list, in_right, of_list, some, some_has, some_is}
-use Rattle.sy_checker.proofs.Used.{posted_there}
-use Rattle.sy_checker.proofs.Walking.{apart_room, more_apart, none_apart}
+use Rattle.sy_fit.proofs.Listing.{In, and_first, and_second, both_true, flat, flat_has, flat_is, in_cases, in_left, in_list, in_right, of_list, some, some_has, some_is}
+use Rattle.sy_flows.proofs.Used.{posted_there}
+use Rattle.sy_flows.proofs.Walking.{apart_room, more_apart, none_apart}
 
 -- ---- where the posts of a list lead
 

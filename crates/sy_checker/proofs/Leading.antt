@@ -24,10 +24,10 @@ use Rattle.sy_site.specs.declared.site.SiteInput.{SiteInput}
 use Rattle.sy_site.specs.Sites.{Site, does_spare, plan_at, target}
 use Rattle.sy_site.specs.machine.Lawful.{IsLawful}
 use Rattle.sy_site.specs.machine.Reach.{MayDo, MustDo, Reaches, forwards, occurrence_at, posts}
-use Rattle.sy_checker.specs.internal.Hops.{AreApart}
-use Rattle.sy_checker.proofs.Listing.{In, and_first, and_second, both_true, flat, flat_has, flat_is, gather, gather_has, gather_is, in_list, of_list, push_has, push_is, push_keeps, push_one, some, some_has, some_is}
-use Rattle.sy_checker.proofs.Used.{list_of_found, posted_there}
-use Rattle.sy_checker.proofs.Walking.{apart_room, more_apart, none_apart}
+use Rattle.sy_flows.specs.Hops.{AreApart}
+use Rattle.sy_fit.proofs.Listing.{In, and_first, and_second, both_true, flat, flat_has, flat_is, gather, gather_has, gather_is, in_list, of_list, push_has, push_is, push_keeps, push_one, some, some_has, some_is}
+use Rattle.sy_flows.proofs.Used.{list_of_found, posted_there}
+use Rattle.sy_flows.proofs.Walking.{apart_room, more_apart, none_apart}
 
 not_false : (b : Bool) → not b ≡ true → b ≡ false
 not_false true e = absurd (false≢true e)

@@ -16,12 +16,12 @@ use Rattle.sy_site.specs.Sites.{Site, same_action, target}
 use Rattle.sy_site.specs.machine.Lawful.{IsLawful}
 use Rattle.sy_site.specs.machine.Reach.{ListLeadsTo, MustDo, posts_on, writes}
 use Rattle.sy_site.specs.machine.Reach as sites
-use Rattle.sy_checker.specs.declared.rows.wanted.InnerList.{InnerList}
-use Rattle.sy_checker.specs.internal.Leads.{IsThere, MustLead, MustWriteAt, leads_on, list_at, same_list}
+use Rattle.sy_flows.specs.declared.lists.InnerList.{InnerList}
+use Rattle.sy_flows.specs.Leads.{IsThere, MustLead, MustWriteAt, leads_on, list_at, same_list}
 use Rattle.sy_checker.proofs.Leading.{must_does, must_execute, must_has}
-use Rattle.sy_checker.proofs.Led.{few_lists, must_lead_there, not_in_lists, same_list_is, same_list_laws}
-use Rattle.sy_checker.proofs.Listing.{In, and_first, and_second, both_true, flat, flat_has, flat_is, in_list, of_list, push_has, push_is, push_keeps, push_one, some, some_has, some_is}
-use Rattle.sy_checker.proofs.Paths.{leads_not}
+use Rattle.sy_flows.proofs.Led.{few_lists, must_lead_there, not_in_lists, same_list_is, same_list_laws}
+use Rattle.sy_fit.proofs.Listing.{In, and_first, and_second, both_true, flat, flat_has, flat_is, in_list, of_list, push_has, push_is, push_keeps, push_one, some, some_has, some_is}
+use Rattle.sy_checker.proofs.PathsFound.{leads_not}
 
 not_false : (b : Bool) → not b ≡ true → b ≡ false
 not_false true e = absurd (false≢true e)

@@ -14,20 +14,20 @@ use Rattle.sy_site.specs.Sites.{Site, plan_at}
 use Rattle.sy_site.specs.machine.Findings.{IsInnerLoop}
 use Rattle.sy_site.specs.machine.Lawful.{IsInput}
 use Rattle.sy_site.specs.machine.Reach.{Follows, MayDo, PostsOn, Reach, list_of, occurrence_at}
-use Rattle.sy_checker.specs.declared.flows.executed.Executed.TheVariants as executed
-use Rattle.sy_checker.specs.declared.lists.inner.Halt.{Halt}
-use Rattle.sy_checker.specs.declared.lists.inner.Halt.TheVariants as halt
-use Rattle.sy_checker.specs.declared.lists.inner.ListNumber.{ListNumber}
-use Rattle.sy_checker.specs.declared.lists.inner.RelayNumbers.{RelayNumbers}
-use Rattle.sy_checker.specs.declared.rows.wanted.InnerList.{InnerList}
-use Rattle.sy_checker.specs.Fit.{IsInner}
-use Rattle.sy_checker.specs.internal.Flows.{AreEach, IsSet}
-use Rattle.sy_checker.specs.internal.Hops.{AreApart}
-use Rattle.sy_checker.specs.internal.Inner.{AreAllDone, AreDone, AreGreatest, AreNumbered, AreNumbers, AreOnWay, AreOpen, HasNoNumbers, HasNone, HasNumbers, IsAsked, IsAskedBy, IsDone, IsDoneBelow, IsHalted, IsOnWay, KeepsDone, KeepsNumbers, PostsFollow, PostsTo, ends, goes_on, number_at, number_in, number_of, ended_so}
-use Rattle.sy_checker.specs.internal.Found.{HasNoneFrom, IsNextIn}
-use Rattle.sy_checker.proofs.Comparing.{from_map}
-use Rattle.sy_checker.proofs.Followed.{followed_by, posts_then}
-use Rattle.sy_checker.proofs.Walking.{apart_few, more_apart, none_apart, one_value}
+use Rattle.sy_flows.specs.declared.flows.executed.Executed.TheVariants as executed
+use Rattle.sy_checker.specs.declared.inner.Halt.{Halt}
+use Rattle.sy_checker.specs.declared.inner.Halt.TheVariants as halt
+use Rattle.sy_checker.specs.declared.inner.ListNumber.{ListNumber}
+use Rattle.sy_checker.specs.declared.inner.RelayNumbers.{RelayNumbers}
+use Rattle.sy_flows.specs.declared.lists.InnerList.{InnerList}
+use Rattle.sy_fit.specs.Fit.{IsInner}
+use Rattle.sy_flows.specs.Flows.{AreEach, IsSet}
+use Rattle.sy_flows.specs.Hops.{AreApart}
+use Rattle.sy_checker.specs.internal.Inner.{AreAllDone, AreDone, AreGreatest, AreNumbered, AreNumbers, AreOnWay, AreOpen, HasNoNumbers, HasNone, HasNumbers, IsAsked, IsAskedBy, IsDone, IsDoneBelow, IsHalted, IsOnWay, KeepsDone, KeepsNumbers, PostsFollow, PostsTo, ended_so, ends, goes_on, number_at, number_in, number_of}
+use Rattle.sy_flows.specs.Members.{HasNoneFrom, IsNextIn}
+use Rattle.sy_fit.proofs.Comparing.{from_map}
+use Rattle.sy_fit.proofs.Followed.{followed_by, posts_then}
+use Rattle.sy_flows.proofs.Walking.{apart_few, more_apart, none_apart, one_value}
 
 abbrev pub list_in : ListNumber → ℕ
 list_in x = x.list

@@ -7,10 +7,10 @@ use Rattle.sy_wire.specs.declared.class.Class.{Class}
 use Rattle.sy_cert.specs.declared.row.Row.{Row}
 use Rattle.sy_cert.specs.declared.row.Row.TheVariants as row
 use Rattle.sy_site.specs.Sites.{Site}
-use Rattle.sy_checker.specs.declared.rows.wanted.InnerList.{InnerList}
-use Rattle.sy_checker.specs.declared.rows.wanted.Wanted.{Wanted}
-use Rattle.sy_checker.specs.declared.rows.wanted.Wanted.TheVariants as wanted
-use Rattle.sy_checker.specs.Fit.{AreFit, AreRight, AreWanted, HasNumber, HasRank, IsInnerRow, IsRankRow, IsRight}
+use Rattle.sy_flows.specs.declared.lists.InnerList.{InnerList}
+use Rattle.sy_fit.specs.declared.rows.wanted.Wanted.{Wanted}
+use Rattle.sy_fit.specs.declared.rows.wanted.Wanted.TheVariants as wanted
+use Rattle.sy_fit.specs.Fit.{AreFit, AreRight, AreWanted, HasNumber, HasRank, IsInnerRow, IsRankRow, IsRight}
 use Rattle.sy_checker.proofs.RowsMade.{same_place}
 
 module _ (site : Site) (class : Class) (part : List Wanted) (rows more : List Row) (right : AreRight site class part rows) where

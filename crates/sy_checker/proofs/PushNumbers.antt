@@ -5,10 +5,10 @@ use Rattle.std.proofs.lemmas.Bool.{cases_eq}
 use Rattle.sy_wire.specs.declared.class.Class.{Class}
 use Rattle.sy_site.specs.declared.site.SiteInput.{SiteInput}
 use Rattle.sy_site.specs.Sites.{Site}
-use Rattle.sy_checker.specs.declared.lists.inner.RelayNumbers.{RelayNumbers}
+use Rattle.sy_checker.specs.declared.inner.RelayNumbers.{RelayNumbers}
 use Rattle.sy_checker.specs.internal.Inner.{AreAllDone, AreDone, AreNumbered, HasNumbers, KeepsDone, KeepsNumbers}
 use Rattle.sy_checker.proofs.Numbering.{kept_all}
-use Rattle.sy_checker.proofs.Walking.{one_value}
+use Rattle.sy_flows.proofs.Walking.{one_value}
 
 set_length : (xs : List RelayNumbers) (k : ℕ) (y : RelayNumbers) → length (set xs k y) ≡ length xs
 set_length [] k y = refl

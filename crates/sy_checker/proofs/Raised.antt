@@ -5,9 +5,10 @@ use Rattle.std.proofs.lemmas.Bool.{cases_eq}
 use Rattle.sy_wire.specs.declared.class.Class.{Class}
 use Rattle.sy_site.specs.Sites.{Site}
 use Rattle.sy_site.specs.machine.Lawful.{IsLawful}
-use Rattle.sy_checker.specs.declared.flows.course.Course.{Course}
+use Rattle.sy_checker.specs.declared.course.Course.{Course}
 use Rattle.sy_checker.specs.internal.Course.{AreClean, AreCourses, AreKept, IsCourse, IsCourseAt, IsRaised}
-use Rattle.sy_checker.proofs.Alike.{alike, one_value, through, turned}
+use Rattle.sy_flows.proofs.Alike.{alike, one_value, turned}
+use Rattle.sy_checker.proofs.Courses.{through}
 use Rattle.sy_checker.proofs.Cleaner.{clean_as}
 
 raised : (site : Site) → IsLawful site → (class other : Class) (course : Course) → IsCourse site class course → AreClean site class

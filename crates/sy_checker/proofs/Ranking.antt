@@ -15,14 +15,15 @@ use Rattle.sy_site.specs.machine.Findings.{WayRow}
 use Rattle.sy_site.specs.machine.Lawful.{IsLawful}
 use Rattle.sy_site.specs.machine.Reach.{Reach, entry, list_of, onward}
 use Rattle.sy_site.specs.machine.Soundness.{AreRanks}
-use Rattle.sy_checker.specs.declared.flows.executed.Executed.TheVariants as executed
-use Rattle.sy_checker.specs.declared.flows.Hop.{Hop}
-use Rattle.sy_checker.specs.internal.Hops.{AreHops}
-use Rattle.sy_checker.specs.internal.Found.{same_input}
-use Rattle.sy_checker.specs.internal.Loops.{AreFollowed, AreRanked, DoesMore, GoesOn, IsDone, IsHeight, IsLeast, IsMet, IsMost, IsOneMore, Follow, ends, goes_on, rank_at}
-use Rattle.sy_checker.proofs.Found.{same_is, same_laws}
-use Rattle.sy_checker.proofs.Gone.{few}
-use Rattle.sy_checker.proofs.There.{reach_there, relay_there}
+use Rattle.sy_flows.specs.declared.flows.executed.Executed.TheVariants as executed
+use Rattle.sy_flows.specs.declared.flows.Hop.{Hop}
+use Rattle.sy_flows.specs.Hops.{AreHops}
+use Rattle.sy_flows.specs.Members.{same_input}
+use Rattle.sy_checker.specs.internal.Loops.{AreFollowed, AreRanked, DoesMore, Follow, IsDone, IsHeight, IsLeast, IsMet, IsMost, IsOneMore, ends, goes_on, rank_at}
+use Rattle.sy_fit.specs.internal.Ranked.{GoesOn}
+use Rattle.sy_flows.proofs.FoundInputs.{same_is, same_laws}
+use Rattle.sy_flows.proofs.Gone.{few}
+use Rattle.sy_flows.proofs.There.{reach_there, relay_there}
 
 -- ---- what is done
 

@@ -19,8 +19,8 @@ use Rattle.sy_site.specs.declared.finding.Kind.TheVariants as kind
 use Rattle.sy_checker.specs.declared.kinds.groups.Group.{Group}
 use Rattle.sy_checker.specs.internal.Leads.{IsLead}
 use Rattle.sy_site.specs.Finding.{kind_of}
-use Rattle.sy_checker.specs.Fit.{IsPath}
-use Rattle.sy_checker.specs.Survey.{HasRanks, IsSurvey, IsSurveyOf, IsThere, IsReportedOf, Names}
+use Rattle.sy_fit.specs.Fit.{IsPath}
+use Rattle.sy_checker.specs.Survey.{HasRanks, IsReportedOf, IsSurvey, IsSurveyOf, IsThere, Names}
 use Rattle.sy_checker.specs.internal.Survey.{Among, AreHeld, IsHeld, IsNothing, IsUnmetBy, Pushes, Reports}
 use Rattle.sy_checker.proofs.Complete.{without_findings}
 use Rattle.sy_checker.proofs.Grouping.{none_there}

@@ -9,14 +9,14 @@ use Rattle.sy_cert.specs.declared.row.Row.{Row}
 use Rattle.sy_cert.specs.declared.row.Row.TheVariants as row
 use Rattle.sy_site.specs.Sites.{Site}
 use Rattle.sy_site.specs.machine.Soundness.{AreRanks}
-use Rattle.sy_checker.specs.declared.rows.wanted.Wanted.{Wanted}
-use Rattle.sy_checker.specs.declared.rows.wanted.Wanted.TheVariants as wanted
-use Rattle.sy_checker.specs.declared.rows.wanted.InnerList.{InnerList}
-use Rattle.sy_checker.specs.Fit.{AreRight, AreWanted, IsAbove, IsInner, IsInnerRow, IsNumbered, IsRankRow, IsRight}
+use Rattle.sy_fit.specs.declared.rows.wanted.Wanted.{Wanted}
+use Rattle.sy_fit.specs.declared.rows.wanted.Wanted.TheVariants as wanted
+use Rattle.sy_flows.specs.declared.lists.InnerList.{InnerList}
+use Rattle.sy_fit.specs.Fit.{AreRight, AreWanted, IsAbove, IsInner, IsInnerRow, IsNumbered, IsRankRow, IsRight}
 use Rattle.sy_checker.specs.internal.Inner.{AreNumbers}
 use Rattle.sy_checker.specs.internal.Made.{IsMade, IsMadeAt}
-use Rattle.sy_checker.proofs.Comparing.{meant}
-use Rattle.sy_checker.proofs.InnerLists.{on}
+use Rattle.sy_fit.proofs.Comparing.{meant}
+use Rattle.sy_fit.proofs.InnerLists.{on}
 
 one_value : {A : Type 0} {x y : A} → Some x ≡ Some y → x ≡ y
 one_value e = cc

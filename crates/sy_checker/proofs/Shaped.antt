@@ -24,18 +24,18 @@ use Rattle.sy_board.specs.relay.Spares.{Scope}
 use Rattle.sy_site.specs.machine.Reach.{Reach, list_of, occurrence_at}
 use Rattle.sy_site.specs.machine.Reach as reach
 use Rattle.sy_checker.specs.internal.Certifying.{AreShaped, IsInRange}
-use Rattle.sy_checker.specs.Fit.{AreFit, AreWanted, IsFit, IsPath, IsRight, paths}
+use Rattle.sy_fit.specs.Fit.{AreFit, AreWanted, IsFit, IsPath, IsRight, paths}
 use Rattle.sy_site.specs.Names.{action_name, name_of, port_of}
-use Rattle.sy_checker.specs.declared.rows.wanted.InnerList.{InnerList}
-use Rattle.sy_checker.specs.declared.rows.wanted.Wanted.{Wanted}
-use Rattle.sy_checker.specs.declared.rows.wanted.Wanted.TheVariants as wanted
-use Rattle.sy_checker.proofs.Comparing.{meant, no_value, one_value}
+use Rattle.sy_flows.specs.declared.lists.InnerList.{InnerList}
+use Rattle.sy_fit.specs.declared.rows.wanted.Wanted.{Wanted}
+use Rattle.sy_fit.specs.declared.rows.wanted.Wanted.TheVariants as wanted
+use Rattle.sy_fit.proofs.Comparing.{meant, no_value, one_value}
 use Rattle.sy_checker.proofs.Described.{IsNamed}
-use Rattle.sy_checker.proofs.FitIsSound.{in_flat, in_map, one_behind}
-use Rattle.sy_checker.proofs.Meant.{end_there, entry_there, inner_there, rank_there}
-use Rattle.sy_checker.proofs.There.{reach_there, relay_there}
-use Rattle.sy_checker.proofs.Unspared.{branch_policy}
-use Rattle.sy_checker.proofs.Used.{relay_of}
+use Rattle.sy_fit.proofs.FitIsSound.{in_flat, in_map, one_behind}
+use Rattle.sy_fit.proofs.Meant.{end_there, entry_there, inner_there, rank_there}
+use Rattle.sy_flows.proofs.There.{reach_there, relay_there}
+use Rattle.sy_checker.proofs.Branches.{branch_policy}
+use Rattle.sy_flows.proofs.Used.{relay_of}
 
 -- ---- the order of what is wanted
 

@@ -13,22 +13,23 @@ use Rattle.sy_site.specs.Sites.{Site, archives, same_action, plan_at}
 use Rattle.sy_site.specs.machine.Lawful.{IsInput, IsLawful}
 use Rattle.sy_site.specs.machine.Reach.{ListLeadsTo, leads_on, posts_on, writes, list_of}
 use Rattle.sy_site.specs.machine.Soundness.{IsSoundFor}
-use Rattle.sy_checker.specs.declared.flows.course.Course.{Course}
+use Rattle.sy_checker.specs.declared.course.Course.{Course}
 use Rattle.sy_checker.specs.declared.archives.met.Met.{Met}
 use Rattle.sy_checker.specs.internal.Checking.{AreSound}
-use Rattle.sy_checker.specs.internal.Course.{AreAlike, AreClean, AreKept, IsCourseAt}
-use Rattle.sy_checker.specs.internal.Flows.{AreSiteFlows, is_used}
+use Rattle.sy_flows.specs.internal.Alike.{AreAlike}
+use Rattle.sy_checker.specs.internal.Course.{AreClean, AreKept, IsCourseAt}
+use Rattle.sy_flows.specs.Flows.{AreSiteFlows, is_used}
 use Rattle.sy_checker.specs.internal.Inner.{number_at}
 use Rattle.sy_checker.specs.internal.Loops.{rank_at}
 use Rattle.sy_checker.specs.internal.Met.{AreMet, IsMet, is_met, met_at, same_met}
-use Rattle.sy_checker.proofs.Alike.{alike, one_value}
-use Rattle.sy_checker.proofs.Comparing.{from_map}
-use Rattle.sy_checker.specs.declared.flows.executed.Executed.TheVariants as executed
+use Rattle.sy_flows.proofs.Alike.{alike, one_value}
+use Rattle.sy_fit.proofs.Comparing.{from_map}
+use Rattle.sy_flows.specs.declared.flows.executed.Executed.TheVariants as executed
 use Rattle.sy_rules.specs.declared.lists.occurrence.Occurrence.TheVariants as occurrence
 use Rattle.sy_checker.proofs.Numbering.{no_inner_loop}
-use Rattle.sy_checker.proofs.Risky.{each_clean}
-use Rattle.sy_checker.proofs.There.{entry_there, lead_there}
-use Rattle.sy_checker.proofs.Used.{input_list, input_used, posted_used}
+use Rattle.sy_fit.proofs.Risky.{each_clean}
+use Rattle.sy_flows.proofs.There.{entry_there, lead_there}
+use Rattle.sy_flows.proofs.Used.{input_list, input_used, posted_used}
 
 -- ---- which are among them
 

@@ -16,8 +16,9 @@ use Rattle.sy_site.specs.machine.Lawful.{IsLawful}
 use Rattle.sy_board.specs.relay.Spares.{Scope}
 use Rattle.sy_site.specs.machine.Reach.{Reach}
 use Rattle.sy_site.specs.declared.finding.WayRow as found
-use Rattle.sy_checker.specs.internal.Loops.{GoesOn, IsLed, IsMet, IsTrail, relays_of, way_of}
-use Rattle.sy_checker.proofs.There.{reach_there, relay_there}
+use Rattle.sy_fit.specs.internal.Ranked.{GoesOn}
+use Rattle.sy_checker.specs.internal.Loops.{IsLed, IsMet, IsTrail, relays_of, way_of}
+use Rattle.sy_flows.proofs.There.{reach_there, relay_there}
 
 -- ---- no number twice
 

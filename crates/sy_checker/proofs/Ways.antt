@@ -8,17 +8,18 @@ use Rattle.sy_wire.specs.declared.class.Class.{Class}
 use Rattle.sy_site.specs.declared.site.SiteInput.{SiteInput}
 use Rattle.sy_site.specs.Sites.{Site, is_protected}
 use Rattle.sy_site.specs.machine.Findings.{HoldsAt, IsFinding, IsWay, IsWayFrom, Kind as AnyKind}
-use Rattle.sy_checker.specs.declared.flows.executed.Executed.{Executed}
-use Rattle.sy_checker.specs.declared.flows.executed.Executed.TheVariants as executed
+use Rattle.sy_flows.specs.declared.flows.executed.Executed.{Executed}
+use Rattle.sy_flows.specs.declared.flows.executed.Executed.TheVariants as executed
 use Rattle.sy_site.specs.declared.finding.Kind.{Kind}
 use Rattle.sy_site.specs.declared.finding.Kind.TheVariants as kind
 use Rattle.sy_site.specs.declared.finding.WayRow.{WayRow}
-use Rattle.sy_checker.specs.declared.reach.Origin.{Origin}
+use Rattle.sy_flows.specs.declared.reach.Origin.{Origin}
 use Rattle.sy_checker.specs.internal.Answer.{IsKindAt, IsRiskAt}
 use Rattle.sy_site.specs.Finding.{kind_of, way_of}
-use Rattle.sy_checker.proofs.FitIsSound.{at_place}
-use Rattle.sy_checker.proofs.Risky.{all_clean}
-use Rattle.sy_checker.specs.internal.Search.{AreRooted, IsLed, IsLedFrom, IsNumberTo, IsSpread}
+use Rattle.sy_flows.proofs.Places.{at_place}
+use Rattle.sy_fit.proofs.Risky.{all_clean}
+use Rattle.sy_flows.specs.Search.{AreRooted, IsNumberTo, IsSpread}
+use Rattle.sy_checker.specs.internal.Search.{IsLed, IsLedFrom}
 
 pub one_value : {A : Type 0} {x y : A} → Some x ≡ Some y → x ≡ y
 one_value e = cc

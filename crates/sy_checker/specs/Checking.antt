@@ -4,7 +4,7 @@ use Rattle.sy_site.specs.Sites.{Site}
 use Rattle.sy_site.specs.declared.fault.SiteFault.TheVariants as site_fault
 use Rattle.sy_site.specs.texts.Describes.{Describes, File}
 use Rattle.sy_site.specs.texts.HasFault.{HasFault}
-use Rattle.sy_checker.specs.Acceptance.{Acceptance, IsOf}
+use Rattle.sy_fit.specs.Acceptance.{Acceptance, IsOf}
 use Rattle.sy_site.specs.Finding.{IsTrueRefusal}
 use Rattle.sy_checker.specs.declared.checking.CheckFault.{CheckFault}
 use Rattle.sy_checker.specs.declared.checking.CheckFault.TheVariants as faults

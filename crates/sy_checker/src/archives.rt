@@ -2,5 +2,4 @@
 
 pub mod lead;
 pub mod met;
-pub mod path;
 pub mod unmet;

@@ -1,6 +1,6 @@
 //! Making a certificate: the rows of each protected class, or what is found in the site.
 
-ghost use Rattle.std.specs.Prelude.{◌≡◌, ◌<◌, ◌≤◌, ◌++◌, ◌∷◌, [], Contains, IfErr, IfOk, OnOk, true};
+ghost use Rattle.std.specs.Prelude.{[], ◌≡◌, ◌<◌, ◌≤◌, ◌++◌, ◌∷◌, Contains, IfErr, IfOk, OnOk, true};
 ghost use Rattle.sy_wire.specs.declared.class.Class.{Class as AnyClass};
 ghost use Rattle.sy_cert.specs.declared.kinds.Kind.TheVariants as kinds;
 ghost use Rattle.sy_cert.specs.Rows.{IsRow, IsVersion, kind, last_kind, may_follow};
@@ -9,18 +9,17 @@ ghost use Rattle.sy_site.specs.machine.Soundness.{IsSound};
 ghost use Rattle.sy_checker.specs.internal.Certifying as spec;
 ghost use Rattle.sy_site.specs.Finding.{IsTrueRefusal};
 ghost use Rattle.sy_site.specs.declared.finding.Refusal.TheVariants as refusal;
-ghost use Rattle.sy_checker.specs.Fit.{AreFit, IsFit, IsFitFor};
-ghost use Rattle.sy_checker.specs.internal.Flows.{AreFirm};
+ghost use Rattle.sy_fit.specs.Fit.{AreFit, IsFit, IsFitFor};
+ghost use Rattle.sy_flows.specs.Flows.{AreFirm};
 ghost use Rattle.sy_checker.specs.internal.Course.{AreClean, AreCourses, IsCourse};
 
-use crate::classes::protected_classes;
-use crate::flows::course::{Course, course_for};
-use crate::flows::firm::{SiteFirm, firm_of};
-use crate::laws::fit_is_sound;
-use crate::rows::making::{parts_join, rows_for};
-use crate::rows::wanted::wanted_rows;
+use crate::course::{Course, course_for};
+use crate::making::{parts_join, rows_for};
 use std::alloc::{AllocError, Global};
 use sy_cert::{Certificate, Row};
+use sy_fit::laws::fit_is_sound;
+use sy_fit::{protected_classes, wanted_rows};
+use sy_flows::{SiteFirm, firm_of};
 use sy_site::Site;
 use sy_site::finding::Refusal;
 use sy_site::laws::archives_are_those_named;

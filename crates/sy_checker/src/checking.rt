@@ -1,6 +1,6 @@
 //! Checking: whether a site's texts describe one that keeps each message of its protected classes.
 
-ghost use Rattle.std.specs.Prelude.{◌≡◌, ◌++◌, ◌∷◌, [], Contains, List, map, true, IfErr, IfOk, OnOk};
+ghost use Rattle.std.specs.Prelude.{[], ◌≡◌, ◌++◌, ◌∷◌, Contains, List, map, true, IfErr, IfOk, OnOk};
 ghost use Rattle.sy_wire.specs.declared.class.Class.{Class as AnyClass};
 ghost use Rattle.sy_site.specs.Sites as sites;
 ghost use Rattle.sy_site.specs.texts.Describes.{file, Describes};
@@ -8,26 +8,23 @@ ghost use Rattle.sy_site.specs.machine.Safety.{AreSafe};
 ghost use Rattle.sy_site.specs.machine.Soundness.{IsSound, IsSoundFor};
 ghost use Rattle.sy_site.specs.machine.States.{SiteState};
 ghost use Rattle.sy_site.specs.machine.Steps.{Runs, SiteEvent};
-ghost use Rattle.sy_checker.specs.Acceptance.{IsOf};
-ghost use Rattle.sy_checker.specs.internal.Checking.{AreReached};
-ghost use Rattle.sy_checker.specs.Claims.{RanksStayFalling, StayConfined, StayWrittenOrHead};
+ghost use Rattle.sy_fit.specs.Acceptance.{AreReached, IsOf};
+ghost use Rattle.sy_fit.specs.Claims.{RanksStayFalling, StayConfined, StayWrittenOrHead};
 ghost use Rattle.sy_checker.specs.Checking as spec;
 ghost use Rattle.sy_checker.specs.internal.Checking as inside;
 ghost use Rattle.sy_site.specs.Finding.{IsTrueRefusal};
 ghost use Rattle.sy_checker.specs.internal.Course.{AreClean, AreCourses, IsCourse, IsCourseAt};
 ghost use Rattle.sy_checker.specs.internal.Met.{AreMet};
-ghost use Rattle.sy_checker.specs.internal.Flows.{AreFirm};
+ghost use Rattle.sy_flows.specs.Flows.{AreFirm};
 ghost use Rattle.sy_site.specs.declared.finding.Refusal.TheVariants as refusal;
 
-use crate::accepted::{Accepted, push_pairs};
 use crate::archives::met::{Met, are_met, push_met};
 use crate::certifying::rows_of_class;
-use crate::classes::protected_classes;
-use crate::flows::course::{Course, course_for};
-use crate::flows::firm::{SiteFirm, firm_of};
-use crate::laws::claims_of_sound_sites;
-use crate::rows::wanted::archives;
+use crate::course::{Course, course_for};
 use std::alloc::{AllocError, Global};
+use sy_fit::laws::claims_of_sound_sites;
+use sy_fit::{Accepted, archives, protected_classes, push_pairs};
+use sy_flows::{SiteFirm, firm_of};
 use sy_site::finding::Refusal;
 use sy_site::laws::one_site;
 use sy_site::machine::{sound_sites_are_safe, sound_sites_have_no_finding};

@@ -1,17 +1,17 @@
 //! Numbers of the lists of all relays for a class, from each input that it reaches.
 
-ghost use Rattle.std.specs.Prelude.{◌≡◌, ◌<◌, ◌↔◌, Contains, IfErr, IfOk, OnOk, length};
+ghost use Rattle.std.specs.Prelude.{◌≡◌, ◌↔◌, Contains, IfErr, IfOk, OnOk, length};
 ghost use Rattle.sy_site.specs.declared.site.SiteInput.{SiteInput as AnyInput};
 ghost use Rattle.sy_site.specs.machine.Lawful.{IsInput};
 ghost use Rattle.sy_site.specs.machine.Reach.{Reach};
 ghost use Rattle.sy_board.specs.relay.Spares.{Scope};
-ghost use Rattle.sy_checker.specs.internal.Flows.{AreEach};
-ghost use Rattle.sy_checker.specs.internal.Hops.{AreFlows};
+ghost use Rattle.sy_flows.specs.Flows.{AreEach};
+ghost use Rattle.sy_flows.specs.Hops.{AreFlows};
 ghost use Rattle.sy_checker.specs.internal.Inner as spec;
 
-use crate::flows::ClassFlows;
-use crate::lists::inner::{Halt, RelayNumbers, Unnumbered, number_lists};
+use crate::inner::{Halt, RelayNumbers, Unnumbered, number_lists};
 use std::alloc::{AllocError, Global};
+use sy_flows::ClassFlows;
 use sy_site::{Site, SiteInput};
 use sy_wire::Class;
 

@@ -1,7 +1,7 @@
 //! All that is found in a site: of each protected class each kind at each input that it reaches without spare occurrences,
 //! a loop, and each archive that an entry doesn't lead to.
 
-ghost use Rattle.std.specs.Prelude.{◌≡◌, ◌↔◌, ◌⊎◌, [], Contains, Decides, IfOk, OnOk, true};
+ghost use Rattle.std.specs.Prelude.{[], ◌≡◌, ◌↔◌, ◌⊎◌, Contains, Decides, IfOk, OnOk, true};
 ghost use Rattle.sy_site.specs.Sites as sites;
 ghost use Rattle.sy_site.specs.declared.site.SiteInput.{SiteInput as AnyInput};
 ghost use Rattle.sy_site.specs.declared.site.SiteAction.{SiteAction as AnyAction};
@@ -10,30 +10,24 @@ ghost use Rattle.sy_board.specs.relay.Spares.{Scope};
 ghost use Rattle.sy_site.specs.machine.Reach.{LeadsTo, Reach};
 ghost use Rattle.sy_site.specs.machine.Soundness.{IsSound};
 ghost use Rattle.sy_wire.specs.declared.class.Class.{Class as AnyClass};
-ghost use Rattle.sy_checker.specs.internal.Leads.{AreLeads};
+ghost use Rattle.sy_flows.specs.Leads.{AreLeads};
 ghost use Rattle.sy_site.specs.Finding.{kind_of};
-ghost use Rattle.sy_checker.specs.Fit.{AreProtected};
-ghost use Rattle.sy_checker.specs.internal.Flows.{AreFirm};
-ghost use Rattle.sy_checker.specs.internal.Hops.{AreFlows};
+ghost use Rattle.sy_flows.specs.Flows.{AreFirm};
+ghost use Rattle.sy_flows.specs.Hops.{AreFlows};
 ghost use Rattle.sy_checker.specs.internal.Loops.{HasNoRanks};
-ghost use Rattle.sy_checker.specs.internal.Walks.{AreWalks, IsWalk};
+ghost use Rattle.sy_flows.specs.Walks.{AreWalks, IsWalk};
 ghost use Rattle.sy_checker.specs.Survey as spec;
 ghost use Rattle.sy_checker.specs.internal.Survey as inside;
 ghost use Rattle.sy_site.specs.declared.finding.Kind.TheVariants as kinds;
 
 use crate::archives::lead::lead;
-use crate::classes::protected_classes;
-use crate::flows::ClassFlows;
-use crate::flows::firm::{SiteFirm, firm_of};
-use crate::flows::walk::{Walk, walk_for};
 use crate::kinds::groups::{Gathered, Group, nothing_gathered, push_found};
 use crate::kinds::reported::{push_inner_loops, push_inputs};
 use crate::laws::sites_without_a_finding_are_sound;
-use crate::lists::FoundLists;
 use crate::reach::loops::{Unranked, ranks_of};
-use crate::reach::order::sorted;
-use crate::rows::wanted::archives;
 use std::alloc::{AllocError, Global};
+use sy_fit::{archives, protected_classes, sorted};
+use sy_flows::{ClassFlows, FoundLists, SiteFirm, Walk, firm_of, walk_for};
 use sy_site::finding::Kind;
 use sy_site::machine::sound_sites_have_no_finding;
 use sy_site::{Site, SiteAction, SiteInput};

@@ -9,10 +9,8 @@ use Rattle.sy_site.specs.machine.Reach.{Reach}
 use Rattle.sy_site.specs.declared.finding.Finding.{Finding}
 use Rattle.sy_site.specs.declared.finding.Kind.{Kind}
 use Rattle.sy_site.specs.Finding.{IsTrueFinding, kind_of}
-use Rattle.sy_checker.specs.Fit.{IsClean}
-use Rattle.sy_checker.specs.internal.Risks.{IsRisky}
-
--- ---- the kinds 1 to 7
+use Rattle.sy_fit.specs.Fit.{IsClean}
+use Rattle.sy_fit.specs.internal.Risks.{IsRisky}
 
 -- a kind that holds at the input; none where none of the kinds 5 to 7 does
 abbrev pub IsRiskAt : Site → Class → SiteInput → Option Kind → Type 0

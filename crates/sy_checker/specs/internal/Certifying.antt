@@ -1,13 +1,13 @@
 -- What the functions say that make a certificate.
-use Rattle.std.specs.Prelude.{◌≡◌, ℕ, ◌<◌, ◌≤◌, true, List, [], ◌∷◌, ◌++◌, length}
+use Rattle.std.specs.Prelude.{[], ◌≡◌, ℕ, ◌<◌, ◌≤◌, true, List, ◌∷◌, ◌++◌, length}
 use Rattle.sy_wire.specs.declared.class.Class.{Class}
 use Rattle.sy_site.specs.Sites.{Site}
 use Rattle.sy_cert.specs.declared.kinds.Kind.{Kind}
 use Rattle.sy_cert.specs.declared.row.Row.{Row}
 use Rattle.sy_cert.specs.declared.row.Row.TheVariants as row
 use Rattle.sy_cert.specs.Rows.{IsRow, kind, may_follow}
-use Rattle.sy_checker.specs.Fit.{AreRight, AreWanted}
-use Rattle.sy_checker.specs.declared.rows.wanted.Wanted.{Wanted}
+use Rattle.sy_fit.specs.Fit.{AreRight, AreWanted}
+use Rattle.sy_fit.specs.declared.rows.wanted.Wanted.{Wanted}
 
 -- the rows that are wanted for a class, each right, and no more
 pub record AreRowsOf (site : Site) (class : Class) (rows : List Row) : Type 0 where

@@ -1,36 +1,23 @@
 -- The course of a class through a site: what it executes, which inputs it reaches without spare occurrences and with them, how
 -- the relays rank by that, how many posts follow one another, and where its entries lead. Classes that execute the same have the same one.
-use Rattle.std.specs.Prelude.{◌≡◌, ℕ, ◌≤◌, ◌↔◌, Contains, List, Some, length, slice_get, true}
+use Rattle.std.specs.Prelude.{◌≡◌, ℕ, ◌≤◌, ◌↔◌, Contains, List, Some, length, slice_get}
 use Rattle.sy_wire.specs.declared.class.Class.{Class}
-use Rattle.sy_rules.specs.declared.lists.occurrence.Occurrence.{Occurrence}
 use Rattle.sy_board.specs.relay.Spares.{Scope}
 use Rattle.sy_site.specs.declared.site.SiteInput.{SiteInput}
-use Rattle.sy_site.specs.Sites.{Site, plan_at}
+use Rattle.sy_site.specs.Sites.{Site}
 use Rattle.sy_site.specs.machine.Reach.{Reach}
 use Rattle.sy_site.specs.machine.Soundness.{AreRanks}
-use Rattle.sy_checker.specs.declared.flows.course.Course.{Course}
-use Rattle.sy_checker.specs.declared.flows.executed.Executed.{Executed}
-use Rattle.sy_checker.specs.declared.flows.executed.Executed.TheVariants as executed
-use Rattle.sy_checker.specs.declared.flows.RelayFlows.{RelayFlows}
-use Rattle.sy_checker.specs.declared.flows.SiteFlows.{SiteFlows}
-use Rattle.sy_checker.specs.internal.Leads.{AreLeads}
-use Rattle.sy_checker.specs.Fit.{IsClean}
-use Rattle.sy_checker.specs.internal.Flows.{Does, is_used}
-use Rattle.sy_checker.specs.internal.Hops.{AreFlows}
+use Rattle.sy_checker.specs.declared.course.Course.{Course}
+use Rattle.sy_flows.specs.declared.flows.executed.Executed.TheVariants as executed
+use Rattle.sy_flows.specs.declared.flows.SiteFlows.{SiteFlows}
+use Rattle.sy_flows.specs.Leads.{AreLeads}
+use Rattle.sy_fit.specs.Fit.{IsClean}
+use Rattle.sy_flows.specs.Hops.{AreFlows}
 use Rattle.sy_checker.specs.internal.Inner.{AreNumbers, number_at}
 use Rattle.sy_checker.specs.internal.Loops.{rank_at}
-use Rattle.sy_checker.specs.internal.Search.{IsSpread}
-
--- the same of each list
-pub record AreSame (one other : SiteFlows) : Type 0 where
-  pub many : length one.relays.items ≡ length other.relays.items
-  pub each : (relay : ℕ) (a b : RelayFlows) → slice_get one.relays.items relay ≡ Some a → slice_get other.relays.items relay ≡ Some b
-      → a.lists.items ≡ b.lists.items
-
--- Messages of both classes execute the same of each list that they may come to.
-abbrev pub AreAlike : Site → Class → Class → Type 0
-AreAlike site one other = (which : Executed) (relay list number : ℕ) (is : Occurrence) → is_used (plan_at site relay) list ≡ true
-    → Does site one which relay list number is ↔ Does site other which relay list number is
+use Rattle.sy_flows.specs.Search.{IsSpread}
+use Rattle.sy_flows.specs.Flows.{AreSame}
+use Rattle.sy_flows.specs.internal.Alike.{AreAlike}
 
 -- none of the kinds 1 to 7 is found of the class
 abbrev pub AreClean : Site → Class → Type 0

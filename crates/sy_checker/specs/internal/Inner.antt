@@ -1,6 +1,6 @@
 -- How many posts may follow one another from the lists of a relay, of those that may be executed and aren't spare; and what is said by the functions that
 -- look for such a list that is met twice.
-use Rattle.std.specs.Prelude.{◌≡◌, ℕ, ◌==◌, ◌<◌, ◌≤◌, ◌+◌, if◌then◌else◌, Contains, List, [], ◌∷◌, ◌++◌, Option, Some, None, length, map, slice_get}
+use Rattle.std.specs.Prelude.{[], ◌≡◌, ℕ, ◌==◌, ◌<◌, ◌≤◌, ◌+◌, if◌then◌else◌, Contains, List, ◌∷◌, ◌++◌, Option, Some, None, length, map, slice_get}
 use Rattle.sy_wire.specs.declared.class.Class.{Class}
 use Rattle.sy_rules.specs.declared.lists.occurrence.Occurrence.TheVariants as occurrence
 use Rattle.sy_board.specs.relay.Spares.{Scope}
@@ -8,16 +8,16 @@ use Rattle.sy_site.specs.declared.site.SiteInput.{SiteInput}
 use Rattle.sy_site.specs.Sites.{Site, plan_at}
 use Rattle.sy_site.specs.machine.Findings.{IsInnerLoop}
 use Rattle.sy_site.specs.machine.Reach.{Follows, MayDo, PostsOn, list_of, occurrence_at}
-use Rattle.sy_checker.specs.declared.lists.inner.Halt.{Halt}
-use Rattle.sy_checker.specs.declared.lists.inner.Halt.TheVariants as halt
-use Rattle.sy_checker.specs.declared.lists.inner.ListNumber.{ListNumber}
-use Rattle.sy_checker.specs.declared.lists.inner.RelayNumbers.{RelayNumbers}
-use Rattle.sy_checker.specs.declared.lists.inner.Unnumbered.{Unnumbered}
-use Rattle.sy_checker.specs.declared.lists.inner.Unnumbered.TheVariants as unnumbered
-use Rattle.sy_checker.specs.declared.rows.wanted.InnerList.{InnerList}
-use Rattle.sy_checker.specs.Fit.{IsInner}
-use Rattle.sy_checker.specs.internal.Flows.{AreEach}
-use Rattle.sy_checker.specs.internal.Hops.{AreApart}
+use Rattle.sy_checker.specs.declared.inner.Halt.{Halt}
+use Rattle.sy_checker.specs.declared.inner.Halt.TheVariants as halt
+use Rattle.sy_checker.specs.declared.inner.ListNumber.{ListNumber}
+use Rattle.sy_checker.specs.declared.inner.RelayNumbers.{RelayNumbers}
+use Rattle.sy_checker.specs.declared.inner.Unnumbered.{Unnumbered}
+use Rattle.sy_checker.specs.declared.inner.Unnumbered.TheVariants as unnumbered
+use Rattle.sy_flows.specs.declared.lists.InnerList.{InnerList}
+use Rattle.sy_fit.specs.Fit.{IsInner}
+use Rattle.sy_flows.specs.Flows.{AreEach}
+use Rattle.sy_flows.specs.Hops.{AreApart}
 
 -- ---- numbers of lists
 

@@ -1,5 +1,5 @@
 -- What the functions say that look for a loop of a class, and give ranks where there is none.
-use Rattle.std.specs.Prelude.{◌≡◌, ℕ, ◌<◌, ◌≤◌, ◌+◌, ◌==◌, ◌⊎◌, Contains, List, [], ◌∷◌, get_or, length, map}
+use Rattle.std.specs.Prelude.{◌==◌, [], ◌≡◌, ℕ, ◌<◌, ◌≤◌, ◌+◌, ◌⊎◌, Contains, List, ◌∷◌, get_or, length, map}
 use Rattle.std.specs.List.{IsDistinct}
 use Rattle.sy_wire.specs.declared.class.Class.{Class}
 use Rattle.sy_board.specs.relay.Spares.{Scope}
@@ -8,15 +8,14 @@ use Rattle.sy_site.specs.Sites.{Site}
 use Rattle.sy_site.specs.machine.Findings.{IsChain, IsLoop, first_is_entry}
 use Rattle.sy_site.specs.machine.Findings as findings
 use Rattle.sy_site.specs.machine.Reach.{Reach}
-use Rattle.sy_checker.specs.declared.flows.executed.Executed.TheVariants as executed
-use Rattle.sy_checker.specs.declared.flows.Hop.{Hop}
+use Rattle.sy_flows.specs.declared.flows.Hop.{Hop}
 use Rattle.sy_site.specs.declared.finding.WayRow.{WayRow}
 use Rattle.sy_checker.specs.declared.reach.loops.Halt.{Halt}
 use Rattle.sy_checker.specs.declared.reach.loops.Halt.TheVariants as halt
 use Rattle.sy_checker.specs.declared.reach.loops.Unranked.{Unranked}
 use Rattle.sy_checker.specs.declared.reach.loops.Unranked.TheVariants as unranked
-use Rattle.sy_checker.specs.internal.Hops.{LeadsBy}
-use Rattle.sy_checker.specs.internal.Found.{same_input}
+use Rattle.sy_flows.specs.Members.{same_input}
+use Rattle.sy_fit.specs.internal.Ranked.{GoesOn}
 
 -- ---- ways
 
@@ -46,10 +45,6 @@ abbrev pub IsMet : List findings.WayRow → SiteInput → ℕ → Type 0
 IsMet way input relay = Contains (relays_of way) relay ⊎ (relay ≡ input.relay)
 
 -- ---- how many hops follow one another
-
--- an occurrence of an input's list reaches the other input, by spare ones too
-abbrev pub GoesOn : Site → Class → SiteInput → ℕ → SiteInput → Type 0
-GoesOn site class from number to = LeadsBy site class executed.Every from number to
 
 -- So many follow one another from the relay, of those of reached inputs.
 pub data Follow (site : Site) (class : Class) : ℕ → ℕ → Type 0 where

@@ -4,9 +4,9 @@ use Rattle.sy_wire.specs.declared.class.Class.{Class}
 use Rattle.sy_site.specs.Sites.{Site}
 use Rattle.sy_cert.specs.declared.row.Row.{Row}
 use Rattle.sy_cert.specs.declared.row.Row.TheVariants as row
-use Rattle.sy_checker.specs.declared.rows.wanted.Wanted.{Wanted}
-use Rattle.sy_checker.specs.declared.rows.wanted.Wanted.TheVariants as wanted
-use Rattle.sy_checker.specs.Fit.{IsBranchRow, IsClassRow, IsPathRow, IsReachRow}
+use Rattle.sy_fit.specs.declared.rows.wanted.Wanted.{Wanted}
+use Rattle.sy_fit.specs.declared.rows.wanted.Wanted.TheVariants as wanted
+use Rattle.sy_fit.specs.Fit.{IsBranchRow, IsClassRow, IsPathRow, IsReachRow}
 use Rattle.sy_site.specs.Names.{name_of}
 
 -- The row is the wanted one, and holds where ranks are those of all relays and numbers those of all lists.

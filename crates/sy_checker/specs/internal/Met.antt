@@ -6,7 +6,7 @@ use Rattle.sy_site.specs.declared.site.SiteAction.{SiteAction}
 use Rattle.sy_site.specs.declared.site.SiteInput.{SiteInput}
 use Rattle.sy_site.specs.Sites.{Site, same_action}
 use Rattle.sy_site.specs.machine.Reach.{LeadsTo}
-use Rattle.sy_checker.specs.declared.flows.course.Course.{Course}
+use Rattle.sy_checker.specs.declared.course.Course.{Course}
 use Rattle.sy_checker.specs.declared.archives.met.Met.{Met}
 use Rattle.sy_checker.specs.internal.Course.{IsCourseAt}
 

@@ -10,9 +10,7 @@ use Rattle.sy_site.specs.declared.finding.Kind.{Kind}
 use Rattle.sy_site.specs.declared.finding.Kind.TheVariants as kind
 use Rattle.sy_checker.specs.declared.kinds.groups.Group.{Group}
 use Rattle.sy_site.specs.Finding.{kind_of}
-use Rattle.sy_checker.specs.Survey.{subject, Names, AreGroups, IsThere}
-
--- ---- how it is gathered
+use Rattle.sy_checker.specs.Survey.{AreGroups, IsThere, Names, subject}
 
 -- the group at this place is of this kind at this input
 pub record IsAt (groups : List Group) (place : ℕ) (input : SiteInput) (k : Kind) : Type 0 where

@@ -3,16 +3,14 @@
 ghost use Rattle.std.specs.List.{position};
 ghost use Rattle.std.specs.Prelude.{◌≡◌, ◌<◌, Contains, IfOk, Some, length, slice_get};
 ghost use Rattle.sy_site.specs.machine.Lawful.{IsInput};
-ghost use Rattle.sy_checker.specs.declared.rows.wanted.InnerList.{InnerList as AnyList};
-ghost use Rattle.sy_checker.specs.internal.Hops.{AreFlows};
-ghost use Rattle.sy_checker.specs.internal.Found.{same_input};
-ghost use Rattle.sy_checker.specs.internal.Leads as spec;
+ghost use Rattle.sy_flows.specs.declared.lists.InnerList.{InnerList as AnyList};
+ghost use Rattle.sy_flows.specs.Hops.{AreFlows};
+ghost use Rattle.sy_flows.specs.Members.{same_input};
+ghost use Rattle.sy_flows.specs.Leads as spec;
+ghost use Rattle.sy_checker.specs.internal.Leads.{IsLead, IsWayBetween, IsWriting};
 
-use crate::archives::path::{list_of, must_write};
-use crate::flows::ClassFlows;
-use crate::lists::{FoundLists, lists_from};
-use crate::rows::wanted::InnerList;
 use std::alloc::{AllocError, Global};
+use sy_flows::{ClassFlows, FoundLists, InnerList, list_of, must_write};
 use sy_script::Items;
 use sy_site::{Site, SiteAction, SiteInput};
 use sy_wire::Class;
@@ -27,7 +25,7 @@ fn first_writing(
 ) -> Option<usize>
     requires there { (x : AnyList) → Contains lists.now x → spec.IsThere site.now x }
     requires flows { AreFlows site.now class flows.now }
-    ensures { spec.IsWriting site.now class archive lists.now result }
+    ensures { IsWriting site.now class archive lists.now result }
 {
     for place in 0..lists.len() {
         if must_write(site, class, flows, archive, lists[place]) {
@@ -49,7 +47,7 @@ fn way_to(
     requires found { spec.AreFound site.now class start found.now.lists.items found.now.origins.items }
     requires within { place < length found.now.lists.items }
     ensures { IfOk result (λ way. (end : AnyList) → slice_get found.now.lists.items place ≡ Some end
-        → spec.IsWayBetween site.now class start way end) }
+        → IsWayBetween site.now class start way end) }
 {
     let _ = site;
     let _ = class;
@@ -77,7 +75,7 @@ fn lead_among(
     requires there { IsInput site.now entry }
     requires found { spec.AreAllFound site.now class (spec.list_at site.now entry) found.now.lists.items found.now.origins.items }
     requires flows { AreFlows site.now class flows.now }
-    ensures { IfOk result (λ path. spec.IsLead site.now class archive entry path) }
+    ensures { IfOk result (λ path. IsLead site.now class archive entry path) }
 {
     match first_writing(site, class, flows, archive, found.lists.as_slice()) {
         Some(place) => {
@@ -86,25 +84,6 @@ fn lead_among(
         }
         None => Ok(None),
     }
-}
-
-/// The lists that what must be executed and isn't spare leads to, from the list of each entry.
-pub fn leads_of(
-    alloc: Global,
-    site: &Site,
-    class: Class,
-    flows: &ClassFlows,
-) -> Result<Vec<FoundLists>, AllocError>
-    requires flows { AreFlows site.now class flows.now }
-    ensures { IfOk result (λ leads. spec.AreLeads site.now class leads.items) }
-{
-    site.is_lawful();
-    let mut leads = Vec::new(alloc);
-    for entry in site.entries() {
-        let found = lists_from(alloc, site, class, flows, list_of(site, *entry))?;
-        leads.push(found)?;
-    }
-    Ok(leads)
 }
 
 fn place_of(inputs: &[SiteInput], input: SiteInput) -> Option<usize>
@@ -128,7 +107,7 @@ pub fn lead(
     requires entry { Contains site.now.entries entry }
     requires flows { AreFlows site.now class flows.now }
     requires leads { spec.AreLeads site.now class leads.now }
-    ensures { IfOk result (λ path. spec.IsLead site.now class archive entry path) }
+    ensures { IfOk result (λ path. IsLead site.now class archive entry path) }
 {
     site.is_lawful();
     match place_of(site.entries(), entry) {

@@ -5,14 +5,13 @@ ghost use Rattle.sy_cert.specs.Rows.{AreOccurrences};
 ghost use Rattle.sy_site.specs.Sites as sites;
 ghost use Rattle.sy_site.specs.machine.Reach.{LeadsTo, list_of};
 ghost use Rattle.sy_site.specs.Finding.{IsTrueFinding, IsTrueRefusal};
-ghost use Rattle.sy_checker.specs.Fit.{IsPath};
-ghost use Rattle.sy_checker.specs.internal.Hops.{AreFlows};
-ghost use Rattle.sy_checker.specs.internal.Leads.{AreLeads};
+ghost use Rattle.sy_fit.specs.Fit.{IsPath};
+ghost use Rattle.sy_flows.specs.Hops.{AreFlows};
+ghost use Rattle.sy_flows.specs.Leads.{AreLeads};
 
 use crate::archives::lead::lead;
-use crate::flows::ClassFlows;
-use crate::lists::FoundLists;
 use std::alloc::Global;
+use sy_flows::{ClassFlows, FoundLists};
 use sy_script::Items;
 use sy_site::finding::{Finding, Kind, Refusal};
 use sy_site::{Site, SiteAction, SiteInput};

@@ -2,7 +2,6 @@
 
 ghost use Rattle.std.specs.Prelude.{◌≡◌, false};
 ghost use Rattle.std.specs.List.{list_any};
-ghost use Rattle.sy_rules.specs.declared.parameters.settings.QueueParameters.{QueueParameters as AnyParameters};
 ghost use Rattle.sy_checker.specs.internal.Discarding as spec;
 
 use sy_rules::QueueParameters;

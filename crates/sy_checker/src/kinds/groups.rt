@@ -1,6 +1,6 @@
 //! What is found in a site, in groups: the classes of which the same kind is found at the same input.
 
-ghost use Rattle.std.specs.Prelude.{◌≡◌, ◌<◌, ◌++◌, ◌∷◌, [], Contains, Decides, IfNone, IfSome, OnOk, Some, slice_get};
+ghost use Rattle.std.specs.Prelude.{[], ◌≡◌, ◌++◌, ◌∷◌, Contains, Decides, IfNone, IfSome, OnOk, Some};
 ghost use Rattle.sy_checker.specs.Survey as spec;
 ghost use Rattle.sy_checker.specs.internal.Survey as inside;
 ghost use Rattle.sy_checker.specs.declared.kinds.groups.Group.{Group as AnyGroup};

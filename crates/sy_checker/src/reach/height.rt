@@ -3,11 +3,9 @@
 ghost use Rattle.std.specs.Prelude.{◌≡◌, ◌<◌, ℕ, set, max, length};
 ghost use Rattle.sy_site.specs.machine.Lawful.{IsInput};
 ghost use Rattle.sy_checker.specs.internal.Loops as spec;
-ghost use Rattle.sy_checker.specs.internal.Hops.{AreFlows};
+ghost use Rattle.sy_flows.specs.Hops.{AreFlows};
 
-use crate::flows::executed::Executed;
-use crate::flows::hops::hops_at;
-use crate::flows::{ClassFlows, Hop};
+use sy_flows::{ClassFlows, Executed, Hop, hops_at};
 use sy_site::{Site, SiteInput};
 use sy_wire::Class;
 

@@ -1,6 +1,6 @@
 //! Ranks of the relays for a class, or a loop: a way on which a relay is met twice, by spare occurrences too.
 
-ghost use Rattle.std.specs.Prelude.{◌≡◌, ◌<◌, ◌↔◌, ◌++◌, ◌∷◌, ◌==◌, [], ℕ, Contains, Decides, IfErr, IfOk, List, OnOk, length, max, set};
+ghost use Rattle.std.specs.Prelude.{[], ◌≡◌, ◌<◌, ◌↔◌, ◌++◌, ◌∷◌, ◌==◌, ℕ, Contains, Decides, IfErr, IfOk, List, OnOk, length, max, set};
 ghost use Rattle.std.specs.List.{list_any};
 ghost use Rattle.sy_wire.specs.declared.class.Class.{Class as AnyClass};
 ghost use Rattle.sy_site.specs.declared.site.SiteInput.{SiteInput as AnyInput};
@@ -8,15 +8,13 @@ ghost use Rattle.sy_board.specs.relay.Spares.{Scope};
 ghost use Rattle.sy_site.specs.machine.Reach.{Reach};
 ghost use Rattle.sy_site.specs.machine.Soundness.{AreRanks};
 ghost use Rattle.sy_checker.specs.internal.Loops as spec;
+ghost use Rattle.sy_fit.specs.internal.Ranked.{GoesOn};
 ghost use Rattle.sy_site.specs.declared.finding.WayRow.{WayRow as AnyRow};
-ghost use Rattle.sy_checker.specs.internal.Hops.{AreFlows};
+ghost use Rattle.sy_flows.specs.Hops.{AreFlows};
 
-use crate::flows::ClassFlows;
-use crate::flows::executed::Executed;
-use crate::flows::hops::hops_at;
 use crate::reach::height::{height, raise};
-use crate::reach::is_among;
 use std::alloc::{AllocError, Global};
+use sy_flows::{ClassFlows, Executed, hops_at, is_among};
 use sy_site::finding::WayRow;
 use sy_site::{Site, SiteInput};
 use sy_wire::Class;
@@ -168,7 +166,7 @@ fn go(
     requires ranked { spec.AreRanked site.now class seen.old.done.items seen.old.settled.items seen.old.ranks.items }
     requires trail { spec.IsTrail site.now class (spec.way_of seen.old.way.items) row.input }
     requires there { Reach site.now class Scope.Every row.input }
-    requires goes { spec.GoesOn site.now class row.input row.number to }
+    requires goes { GoesOn site.now class row.input row.number to }
     requires flows { AreFlows site.now class flows.now }
     ensures way { OnOk result (seen.new.way.items ≡ seen.old.way.items) }
     ensures ranked { OnOk result

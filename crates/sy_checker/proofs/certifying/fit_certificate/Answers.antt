@@ -3,7 +3,7 @@ use Rattle.std.proofs.Common.{subst, sym, ◌∙◌}
 use Rattle.sy_cert.specs.Rows.{IsVersion}
 use Rattle.sy_cert.specs.declared.kinds.Kind.TheVariants as kinds
 use Rattle.sy_checker.specs.internal.Certifying.{AreShaped}
-use Rattle.sy_checker.specs.Fit.{IsFit}
+use Rattle.sy_fit.specs.Fit.{IsFit}
 use Rattle.sy_checker.proofs.Shaped.{a_version, rows_shaped}
 use Rattle.sy_checker.proofs.certifying.fit_certificate.Goals as goal
 

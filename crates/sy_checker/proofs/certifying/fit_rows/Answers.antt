@@ -1,6 +1,6 @@
 use Rattle.std.proofs.Common.{subst}
 use Rattle.std.specs.Prelude.{Contains}
-use Rattle.sy_checker.specs.Fit.{AreFit}
+use Rattle.sy_fit.specs.Fit.{AreFit}
 use Rattle.sy_checker.proofs.certifying.fit_rows.Goals as goal
 
 pub rows_of_classes-requires : goal.rows_of_classes-requires

@@ -1,6 +1,6 @@
 use Rattle.std.proofs.Common.{subst, sym}
 use Rattle.sy_site.specs.machine.Soundness.{AreRanks}
-use Rattle.sy_checker.specs.Fit.{AreWanted}
+use Rattle.sy_fit.specs.Fit.{AreWanted}
 use Rattle.sy_checker.specs.internal.Inner.{AreNumbers, number_at}
 use Rattle.sy_checker.specs.internal.Loops.{rank_at}
 use Rattle.sy_checker.proofs.certifying.rows_of_class.Goals as goal

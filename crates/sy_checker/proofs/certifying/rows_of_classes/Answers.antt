@@ -3,9 +3,9 @@ use Rattle.std.specs.Prelude.{Contains}
 use Rattle.std.proofs.lemmas.List.{take_all}
 use Rattle.std.proofs.lemmas.List.Elements.{Contains-get_or}
 use Rattle.sy_checker.specs.internal.Course.{AreCourses}
-use Rattle.sy_checker.specs.Fit.{AreFit}
-use Rattle.sy_checker.proofs.Alike.{no_courses}
-use Rattle.sy_checker.proofs.Guarded.{take_next}
+use Rattle.sy_fit.specs.Fit.{AreFit}
+use Rattle.sy_checker.proofs.Courses.{no_courses}
+use Rattle.sy_fit.proofs.Guarded.{take_next}
 use Rattle.sy_checker.proofs.certifying.rows_of_classes.Goals as goal
 
 pub loop-class-init : goal.loop-class-init

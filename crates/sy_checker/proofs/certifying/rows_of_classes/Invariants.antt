@@ -1,6 +1,6 @@
 use Rattle.std.proofs.Common.{take}
 use Rattle.sy_checker.specs.internal.Course.{AreCourses}
-use Rattle.sy_checker.specs.Fit.{AreFit}
+use Rattle.sy_fit.specs.Fit.{AreFit}
 use Rattle.sy_checker.proofs.certifying.rows_of_classes.Given as goal
 
 abbrev pub invariant-loop-class : goal.invariant-loop-class

@@ -1,6 +1,6 @@
 use Rattle.std.proofs.Common.{subst, sym}
 use Rattle.std.specs.Prelude.{Contains}
-use Rattle.sy_checker.specs.internal.Checking.{AreReached}
+use Rattle.sy_fit.specs.Acceptance.{AreReached}
 use Rattle.sy_checker.proofs.checking.accepted.Goals as goal
 
 pub check_classes-requires : goal.check_classes-requires

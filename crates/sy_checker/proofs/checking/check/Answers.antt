@@ -3,7 +3,7 @@ use Rattle.sy_site.specs.machine.Safety.{AreSafe}
 use Rattle.sy_site.specs.machine.Soundness.{IsSound}
 use Rattle.sy_site.specs.machine.States.{SiteState}
 use Rattle.sy_site.specs.machine.Steps.{Runs, SiteEvent}
-use Rattle.sy_checker.specs.Claims.{RanksStayFalling, StayConfined, StayWrittenOrHead}
+use Rattle.sy_fit.specs.Claims.{RanksStayFalling, StayConfined, StayWrittenOrHead}
 use Rattle.sy_site.specs.declared.finding.Refusal.TheVariants as refusal
 use Rattle.sy_checker.proofs.Checked.{each_described}
 use Rattle.sy_checker.proofs.checking.check.Goals as goal

@@ -2,11 +2,12 @@ use Rattle.std.proofs.Common.{[], subst, sym, take}
 use Rattle.std.specs.Prelude.{Contains}
 use Rattle.std.proofs.lemmas.List.{take_all}
 use Rattle.std.proofs.lemmas.List.Elements.{Contains-get_or}
-use Rattle.sy_checker.specs.internal.Checking.{AreReached, AreSound}
+use Rattle.sy_fit.specs.Acceptance.{AreReached}
+use Rattle.sy_checker.specs.internal.Checking.{AreSound}
 use Rattle.sy_checker.specs.internal.Course.{AreCourses}
 use Rattle.sy_checker.specs.internal.Met.{AreMet}
-use Rattle.sy_checker.proofs.Alike.{no_courses}
-use Rattle.sy_checker.proofs.Guarded.{reached_first, take_next}
+use Rattle.sy_checker.proofs.Courses.{no_courses}
+use Rattle.sy_fit.proofs.Guarded.{reached_first, take_next}
 use Rattle.sy_checker.proofs.Shared.{more_sound, none_sound, nothing_met}
 use Rattle.sy_checker.proofs.checking.check_classes.Goals as goal
 

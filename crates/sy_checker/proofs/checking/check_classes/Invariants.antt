@@ -1,5 +1,6 @@
 use Rattle.std.proofs.Common.{take}
-use Rattle.sy_checker.specs.internal.Checking.{AreReached, AreSound}
+use Rattle.sy_fit.specs.Acceptance.{AreReached}
+use Rattle.sy_checker.specs.internal.Checking.{AreSound}
 use Rattle.sy_checker.specs.internal.Course.{AreCourses}
 use Rattle.sy_checker.specs.internal.Met.{AreMet}
 use Rattle.sy_checker.proofs.checking.check_classes.Given as goal

@@ -1,4 +1,4 @@
-use Rattle.sy_checker.proofs.FitIsSound.{sound_for}
+use Rattle.sy_fit.proofs.FitIsSound.{sound_for}
 use Rattle.sy_checker.proofs.checking.check_rows.Goals as goal
 
 pub returns-clause-sound : goal.returns-clause-sound

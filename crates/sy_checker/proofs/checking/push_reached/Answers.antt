@@ -1,6 +1,6 @@
 use Rattle.std.proofs.Common.{◌∷◌, ◌++◌, [], ap, subst, sym, ◌∙◌, map}
-use Rattle.sy_checker.specs.internal.Checking.{AreReached}
-use Rattle.sy_checker.proofs.Guarded.{reached_more}
+use Rattle.sy_fit.specs.Acceptance.{AreReached}
+use Rattle.sy_fit.proofs.Guarded.{reached_more}
 use Rattle.sy_checker.proofs.checking.push_reached.Goals as goal
 
 pub returns : goal.returns

@@ -1,7 +1,7 @@
 use Rattle.std.proofs.Common.{◌+◌, arith, subst, sym}
-use Rattle.sy_checker.specs.internal.Flows.{AreEach}
+use Rattle.sy_flows.specs.Flows.{AreEach}
 use Rattle.sy_checker.specs.internal.Inner.{HasNone}
-use Rattle.sy_checker.proofs.Flowing.{each_more}
+use Rattle.sy_flows.proofs.Flowing.{each_more}
 use Rattle.sy_checker.proofs.site_numbers.nothing_numbered.Goals as goal
 
 pub loop-relay-preserved : goal.loop-relay-preserved

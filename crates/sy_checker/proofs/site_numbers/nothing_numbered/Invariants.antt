@@ -1,5 +1,5 @@
 use Rattle.std.proofs.Common.{◌≡◌, ◌≤◌, length}
-use Rattle.sy_checker.specs.internal.Flows.{AreEach}
+use Rattle.sy_flows.specs.Flows.{AreEach}
 use Rattle.sy_checker.specs.internal.Inner.{HasNone}
 use Rattle.sy_checker.proofs.site_numbers.nothing_numbered.Given as goal
 

@@ -2,9 +2,9 @@ use Rattle.std.proofs.Common.{◌≡◌, ◌<◌, Some, arith, length, refl, set
 use Rattle.std.specs.Prelude.{slice_get}
 use Rattle.std.proofs.lemmas.Option.{slice_get_read}
 use Rattle.sy_checker.specs.internal.Inner.{AreAllDone, AreDone, AreNumbered, HasNumbers, KeepsDone, KeepsNumbers}
-use Rattle.sy_checker.proofs.Found.{on_ok}
+use Rattle.sy_flows.proofs.FoundInputs.{on_ok}
 use Rattle.sy_checker.proofs.PushNumbers.{numbers_kept, numbers_of_input, numbers_push}
-use Rattle.sy_checker.proofs.There.{relay_there}
+use Rattle.sy_flows.proofs.There.{relay_there}
 use Rattle.sy_checker.proofs.site_numbers.number_input.Goals as goal
 
 pub number_relay-requires-clause-done : goal.number_relay-requires-clause-done

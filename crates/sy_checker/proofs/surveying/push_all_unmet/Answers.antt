@@ -1,6 +1,6 @@
 use Rattle.std.proofs.Common.{subst, sym, ◌∙◌}
 use Rattle.std.specs.Prelude.{Contains}
-use Rattle.sy_checker.specs.internal.Leads.{AreLeads}
+use Rattle.sy_flows.specs.Leads.{AreLeads}
 use Rattle.sy_checker.specs.internal.Survey.{Among, IsUnmetBy, Reports}
 use Rattle.sy_checker.proofs.surveying.push_all_unmet.Goals as goal
 

@@ -3,7 +3,7 @@ use Rattle.sy_site.specs.machine.Findings.{IsLoop}
 use Rattle.sy_site.specs.declared.finding.Kind.TheVariants as kind
 use Rattle.sy_checker.specs.internal.Loops.{HasNoRanks, way_of}
 use Rattle.sy_checker.specs.internal.Survey.{IsNothing, Pushes, Reports}
-use Rattle.sy_checker.proofs.Found.{on_ok}
+use Rattle.sy_flows.proofs.FoundInputs.{on_ok}
 use Rattle.sy_checker.proofs.Reporting.{push_reported}
 use Rattle.sy_checker.proofs.surveying.push_looped.Goals as goal
 

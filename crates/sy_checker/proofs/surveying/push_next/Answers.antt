@@ -1,4 +1,4 @@
-use Rattle.sy_checker.proofs.Walked.{walk_read}
+use Rattle.sy_flows.proofs.Walked.{walk_read}
 use Rattle.sy_checker.proofs.surveying.push_next.Goals as goal
 
 pub push_all-requires : goal.push_all-requires

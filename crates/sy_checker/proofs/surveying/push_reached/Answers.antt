@@ -8,7 +8,7 @@ use Rattle.sy_site.specs.Finding.{kind_of}
 use Rattle.sy_site.specs.declared.finding.Kind.{Kind}
 use Rattle.sy_site.specs.declared.finding.Kind.TheVariants as kind
 use Rattle.sy_checker.specs.internal.Survey.{Among, AreHeld, IsHeld, IsNothing, Reports}
-use Rattle.sy_checker.proofs.There.{reach_there}
+use Rattle.sy_flows.proofs.There.{reach_there}
 use Rattle.sy_checker.proofs.Reporting.{both_reported, held_or_looped}
 use Rattle.sy_checker.proofs.surveying.push_reached.Goals as goal
 

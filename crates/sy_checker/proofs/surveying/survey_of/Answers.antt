@@ -3,10 +3,10 @@ use Rattle.std.specs.Prelude.{Contains}
 use Rattle.std.proofs.lemmas.List.{take_all}
 use Rattle.std.proofs.lemmas.List.Elements.{Contains-get_or}
 use Rattle.sy_checker.specs.Survey.{IsSurveyOf}
-use Rattle.sy_checker.specs.internal.Walks.{AreWalks}
-use Rattle.sy_checker.proofs.Guarded.{take_next}
+use Rattle.sy_flows.specs.Walks.{AreWalks}
+use Rattle.sy_fit.proofs.Guarded.{take_next}
 use Rattle.sy_checker.proofs.Reporting.{survey_first, survey_more}
-use Rattle.sy_checker.proofs.Walked.{no_walks}
+use Rattle.sy_flows.proofs.Walked.{no_walks}
 use Rattle.sy_checker.proofs.surveying.survey_of.Goals as goal
 
 pub push_next-requires : goal.push_next-requires

@@ -2,9 +2,9 @@ use Rattle.std.proofs.Common.{◌∙◌, get_or, sym}
 use Rattle.std.proofs.lemmas.Bool.{false≢true}
 use Rattle.std.proofs.lemmas.List.Elements.{Contains-get_or}
 use Rattle.std.proofs.lemmas.Option.{slice_get-get_or}
-use Rattle.sy_checker.specs.declared.rows.wanted.InnerList.{InnerList}
-use Rattle.sy_checker.specs.internal.Leads.{MustWriteAt}
-use Rattle.sy_checker.proofs.Paths.{holds_all, holds_more}
+use Rattle.sy_flows.specs.declared.lists.InnerList.{InnerList}
+use Rattle.sy_flows.specs.Leads.{MustWriteAt}
+use Rattle.sy_checker.proofs.PathsFound.{holds_all, holds_more}
 use Rattle.sy_checker.proofs.archives.lead.first_writing.Goals as goal
 
 abbrev no_list : InnerList

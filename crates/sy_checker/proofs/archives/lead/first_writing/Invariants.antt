@@ -1,5 +1,5 @@
-use Rattle.sy_checker.specs.internal.Leads.{MustWriteAt}
-use Rattle.sy_checker.proofs.Paths.{HoldsBelow}
+use Rattle.sy_flows.specs.Leads.{MustWriteAt}
+use Rattle.sy_checker.proofs.PathsFound.{HoldsBelow}
 use Rattle.sy_checker.proofs.archives.lead.first_writing.Given as goal
 
 abbrev pub invariant-loop-place : goal.invariant-loop-place

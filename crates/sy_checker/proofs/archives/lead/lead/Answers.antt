@@ -3,9 +3,9 @@ use Rattle.std.specs.Prelude.{Contains, slice_get}
 use Rattle.std.proofs.lemmas.List.Quantifiers.{position-Some}
 use Rattle.std.proofs.lemmas.Option.{slice_get_read}
 use Rattle.sy_site.proofs.lemmas.sites.Places.{place_none}
-use Rattle.sy_checker.specs.internal.Found.{same_input}
-use Rattle.sy_checker.proofs.Found.{same_is, same_laws}
-use Rattle.sy_checker.proofs.There.{entry_there}
+use Rattle.sy_flows.specs.Members.{same_input}
+use Rattle.sy_flows.proofs.FoundInputs.{same_is, same_laws}
+use Rattle.sy_flows.proofs.There.{entry_there}
 use Rattle.sy_checker.proofs.archives.lead.lead.Goals as goal
 
 pub lead_among-requires-clause-there : goal.lead_among-requires-clause-there

@@ -2,8 +2,9 @@ use Rattle.std.proofs.Common.{◌≡◌, ◌∙◌, Some, subst, sym}
 use Rattle.std.specs.Prelude.{Contains, slice_get}
 use Rattle.std.proofs.lemmas.Option.{slice_get_within}
 use Rattle.sy_site.specs.machine.Reach.{list_of}
-use Rattle.sy_checker.specs.internal.Leads.{AreFound, IsThere, IsWayBetween}
-use Rattle.sy_checker.proofs.Paths.{leads_not, path_is}
+use Rattle.sy_flows.specs.Leads.{AreFound, IsThere}
+use Rattle.sy_checker.specs.internal.Leads.{IsWayBetween}
+use Rattle.sy_checker.proofs.PathsFound.{leads_not, path_is}
 use Rattle.sy_checker.proofs.archives.lead.lead_among.Goals as goal
 
 pub first_writing-requires : goal.first_writing-requires

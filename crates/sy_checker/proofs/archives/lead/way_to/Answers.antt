@@ -1,10 +1,10 @@
 use Rattle.std.proofs.Common.{◌≡◌, ◌∙◌, ◌<◌, None, arith, length, sym, subst}
 use Rattle.std.specs.Prelude.{slice_get, Some}
-use Rattle.sy_checker.specs.declared.rows.wanted.InnerList.{InnerList}
+use Rattle.sy_flows.specs.declared.lists.InnerList.{InnerList}
 use Rattle.sy_checker.specs.internal.Leads.{IsWayBetween}
-use Rattle.sy_checker.proofs.Gone.{if_ok}
-use Rattle.sy_checker.proofs.Paths.{HasWay, way_before, way_first, way_more, way_whole}
-use Rattle.sy_checker.proofs.Rooted.{is_none, read_there}
+use Rattle.sy_flows.proofs.Gone.{if_ok}
+use Rattle.sy_checker.proofs.PathsFound.{HasWay, way_before, way_first, way_more, way_whole}
+use Rattle.sy_flows.proofs.Rooted.{is_none, read_there}
 use Rattle.sy_checker.proofs.archives.lead.way_to.Goals as goal
 
 pub loop-origin-init : goal.loop-origin-init

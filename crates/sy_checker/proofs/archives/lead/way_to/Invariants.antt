@@ -1,4 +1,4 @@
-use Rattle.sy_checker.proofs.Paths.{HasWay}
+use Rattle.sy_checker.proofs.PathsFound.{HasWay}
 use Rattle.sy_checker.proofs.archives.lead.way_to.Given as goal
 
 abbrev pub invariant-loop-origin : goal.invariant-loop-origin

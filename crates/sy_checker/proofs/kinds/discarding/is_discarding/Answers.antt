@@ -2,7 +2,7 @@ use Rattle.std.proofs.Common.{◌≡◌, ◌∙◌, ap, arith, false, refl, sym}
 use Rattle.std.specs.List.{list_any}
 use Rattle.sy_site.specs.Sites.{plan_at}
 use Rattle.sy_checker.specs.internal.Discarding.{discards}
-use Rattle.sy_checker.proofs.Comparing.{more_below}
+use Rattle.sy_flows.proofs.Places.{more_below}
 use Rattle.sy_checker.proofs.Mild.{discards_none}
 use Rattle.sy_checker.proofs.kinds.discarding.is_discarding.Goals as goal
 

@@ -1,5 +1,5 @@
 use Rattle.sy_checker.specs.internal.Survey.{Among, AreHeld, IsHeld}
-use Rattle.sy_checker.proofs.Reporting.{held_among, seven, reported_as}
+use Rattle.sy_checker.proofs.Reporting.{held_among, reported_as, seven}
 use Rattle.sy_checker.proofs.kinds.reported.push_input.Goals as goal
 
 pub returns : goal.returns

@@ -1,9 +1,9 @@
 use Rattle.std.proofs.Common.{◌∙◌, subst, sym}
 use Rattle.std.proofs.lemmas.Option.{slice_get_within}
 use Rattle.sy_site.specs.machine.Findings.{IsFinding}
-use Rattle.sy_checker.specs.declared.flows.executed.Executed.TheVariants as executed
+use Rattle.sy_flows.specs.declared.flows.executed.Executed.TheVariants as executed
 use Rattle.sy_site.specs.Finding.{kind_of, way_of}
-use Rattle.sy_checker.proofs.Rooted.{go_back}
+use Rattle.sy_flows.proofs.Rooted.{go_back}
 use Rattle.sy_checker.proofs.Ways.{is_finding, it_stands, way_is}
 use Rattle.sy_checker.proofs.kinds.search.finding_at.Goals as goal
 

@@ -1,7 +1,7 @@
 use Rattle.std.proofs.Common.{subst, sym}
 use Rattle.std.specs.Prelude.{Contains}
 use Rattle.sy_board.specs.relay.Spares.{Scope}
-use Rattle.sy_checker.proofs.Gone.{reach_spread}
+use Rattle.sy_flows.proofs.Gone.{reach_spread}
 use Rattle.sy_checker.proofs.kinds.search.first_finding.Goals as goal
 
 pub returns-in-None : goal.returns-in-None

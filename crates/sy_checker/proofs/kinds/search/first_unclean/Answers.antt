@@ -1,7 +1,7 @@
 use Rattle.std.proofs.Common.{get_or}
 use Rattle.std.proofs.lemmas.Option.{slice_get-get_or}
 use Rattle.sy_site.specs.declared.site.SiteInput.{SiteInput}
-use Rattle.sy_checker.specs.Fit.{IsClean}
+use Rattle.sy_fit.specs.Fit.{IsClean}
 use Rattle.sy_checker.proofs.Ways.{holds_all, holds_more}
 use Rattle.sy_checker.proofs.kinds.search.first_unclean.Goals as goal
 

@@ -1,7 +1,7 @@
 use Rattle.std.proofs.Common.{ℕ, ◌+◌, ap, get_or, subst, sym, take}
 use Rattle.std.proofs.lemmas.List.{get_or_default}
 use Rattle.sy_checker.specs.internal.Loops.{IsHeightOf}
-use Rattle.sy_checker.specs.declared.flows.Hop.{Hop}
+use Rattle.sy_flows.specs.declared.flows.Hop.{Hop}
 use Rattle.sy_checker.proofs.Heights.{height_none, height_of_all, new_most, still_most}
 use Rattle.sy_checker.proofs.reach.height.height_of.Goals.{else-most-next, then-most-next}
 use Rattle.sy_checker.proofs.reach.height.height_of.Goals as goal

@@ -8,13 +8,14 @@ use Rattle.std.proofs.lemmas.Map.Views.{Contains-from_any}
 use Rattle.sy_site.specs.declared.site.SiteInput.{SiteInput}
 use Rattle.sy_board.specs.relay.Spares.{Scope}
 use Rattle.sy_site.specs.machine.Reach.{Reach, onward}
-use Rattle.sy_checker.specs.internal.Found.{same_input}
-use Rattle.sy_checker.specs.declared.flows.Hop.{Hop}
+use Rattle.sy_flows.specs.Members.{same_input}
+use Rattle.sy_flows.specs.declared.flows.Hop.{Hop}
 use Rattle.sy_checker.specs.declared.reach.loops.Seen.{Seen}
-use Rattle.sy_checker.specs.internal.Loops.{AreRanked, DoesMore, GoesOn, IsDone, IsHeight, IsMet, IsTrail, rank_at, relays_of, way_of}
-use Rattle.sy_checker.proofs.Found.{not_among, same_is}
-use Rattle.sy_checker.proofs.Ranking.{fresh_still, follows_all, follows_more, more_and, more_as, more_by_one, raised, ranked_as, ranked_more, ranks_small, settled_more}
-use Rattle.sy_checker.proofs.There.{reach_there, relay_there}
+use Rattle.sy_checker.specs.internal.Loops.{AreRanked, DoesMore, IsDone, IsHeight, IsMet, IsTrail, rank_at, relays_of, way_of}
+use Rattle.sy_fit.specs.internal.Ranked.{GoesOn}
+use Rattle.sy_flows.proofs.FoundInputs.{not_among, same_is}
+use Rattle.sy_checker.proofs.Ranking.{follows_all, follows_more, fresh_still, more_and, more_as, more_by_one, raised, ranked_as, ranked_more, ranks_small, settled_more}
+use Rattle.sy_flows.proofs.There.{reach_there, relay_there}
 use Rattle.sy_checker.proofs.Visited.{met_decides, visited_all, visited_more}
 use Rattle.sy_checker.proofs.Trails.{loops_as_found, met_on, room, trail_as_found}
 use Rattle.sy_checker.proofs.reach.loops.+visit.Goals.{visit_relay-else-input-first, visit_relay-then-input-first+in_ok-visit-2}

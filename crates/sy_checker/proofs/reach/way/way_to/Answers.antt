@@ -2,8 +2,8 @@ use Rattle.std.proofs.Common.{◌≡◌, ◌∙◌, ◌<◌, None, arith, length
 use Rattle.std.specs.Prelude.{slice_get, Some}
 use Rattle.sy_site.specs.declared.site.SiteInput.{SiteInput}
 use Rattle.sy_checker.specs.internal.Search.{IsLed}
-use Rattle.sy_checker.proofs.Gone.{if_ok}
-use Rattle.sy_checker.proofs.Rooted.{is_none, read_there}
+use Rattle.sy_flows.proofs.Gone.{if_ok}
+use Rattle.sy_flows.proofs.Rooted.{is_none, read_there}
 use Rattle.sy_checker.proofs.Ways.{HasWay, way_first, way_more, way_whole}
 use Rattle.sy_checker.proofs.reach.way.way_to.Goals as goal
 

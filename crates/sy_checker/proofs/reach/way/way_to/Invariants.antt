@@ -2,8 +2,8 @@ use Rattle.std.proofs.Common.{◌<◌, List, length}
 use Rattle.sy_wire.specs.declared.class.Class.{Class}
 use Rattle.sy_site.specs.declared.site.SiteInput.{SiteInput}
 use Rattle.sy_site.specs.Sites.{Site}
-use Rattle.sy_checker.specs.declared.flows.executed.Executed.{Executed}
-use Rattle.sy_checker.specs.internal.Search.{AreRooted}
+use Rattle.sy_flows.specs.declared.flows.executed.Executed.{Executed}
+use Rattle.sy_flows.specs.Search.{AreRooted}
 use Rattle.sy_checker.proofs.Ways.{HasWay}
 use Rattle.sy_checker.proofs.reach.way.way_to.Given as goal
 

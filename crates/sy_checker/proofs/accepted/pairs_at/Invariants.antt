@@ -1,6 +1,0 @@
-use Rattle.std.proofs.Common.{take}
-use Rattle.sy_checker.specs.Acceptance.{ArePairsAt}
-use Rattle.sy_checker.proofs.accepted.pairs_at.Given as goal
-
-abbrev pub invariant-loop-pair : goal.invariant-loop-pair
-invariant-loop-pair l = ArePairsAt (take l.pair-index l.pairs) l.fn.relay l.found.items

@@ -1,6 +1,0 @@
-use Rattle.std.proofs.Common.{drop}
-use Rattle.sy_checker.proofs.Paths.{Goes}
-use Rattle.sy_checker.proofs.archives.path.is_path_from.Given as goal
-
-abbrev pub invariant-loop-number : goal.invariant-loop-number
-invariant-loop-number l = Goes l.site l.fn.class l.fn.archive l.fn.from l.occurrences l.at (drop l.number-index l.occurrences)

@@ -1,8 +1,0 @@
-use Rattle.std.proofs.Common.{◌≡◌, ℕ, ◌<◌, Some}
-use Rattle.std.specs.Prelude.{slice_get}
-use Rattle.sy_checker.specs.declared.flows.course.Course.{Course}
-use Rattle.sy_checker.specs.internal.Course.{AreSame}
-use Rattle.sy_checker.proofs.flows.course.same_at.Given as goal
-
-abbrev pub invariant-loop-place : goal.invariant-loop-place
-invariant-loop-place l = (k : ℕ) (course : Course) → k < l.place → slice_get l.courses k ≡ Some course → AreSame course.flows.lists l.flows → ⊥

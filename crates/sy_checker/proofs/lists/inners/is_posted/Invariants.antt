@@ -1,6 +1,0 @@
-use Rattle.std.proofs.Common.{take}
-use Rattle.sy_checker.specs.internal.Inners.{IsPosted}
-use Rattle.sy_checker.proofs.lists.inners.is_posted.Given as goal
-
-abbrev pub invariant-loop-input : goal.invariant-loop-input
-invariant-loop-input l = IsPosted l.site l.class (take l.input-index l.inputs) l.list → ⊥

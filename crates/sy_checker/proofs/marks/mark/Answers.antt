@@ -1,7 +1,0 @@
-use Rattle.sy_checker.proofs.Marked.{marked_at}
-use Rattle.sy_checker.proofs.marks.mark.Goals as goal
-
-pub returns : goal.returns
-returns c =
-    marked_at c.args.marks.now.items c.cover.new.marks.items c.set_mark.new.marks.items c.args.place c.in_ok-cover.ensures.there
-    c.in_ok-cover.ensures.same c.set_mark.ensures

@@ -1,8 +1,0 @@
-use Rattle.std.proofs.Common.{◌≡◌, ℕ, ◌<◌, Some}
-use Rattle.std.specs.Prelude.{slice_get}
-use Rattle.sy_checker.specs.internal.Ranked.{FallsAt}
-use Rattle.sy_checker.specs.declared.rows.wanted.Wanted.{Wanted}
-use Rattle.sy_checker.proofs.reach.ranks.is_above.Given as goal
-
-abbrev pub invariant-loop-is : goal.invariant-loop-is
-invariant-loop-is l = (k : ℕ) (is : Wanted) → k < l.is-index → slice_get l.part k ≡ Some is → FallsAt l.site l.class l.part l.rows l.relay l.rank is

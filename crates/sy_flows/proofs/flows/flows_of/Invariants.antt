@@ -1,0 +1,10 @@
+use Rattle.std.proofs.Common.{◌≡◌, ◌≤◌, length}
+use Rattle.sy_flows.specs.Flows.{AreEach, AreRelayFlows}
+use Rattle.sy_flows.proofs.flows.flows_of.Given as goal
+
+abbrev pub invariant-loop-relay : goal.invariant-loop-relay
+invariant-loop-relay l = record {
+  each : AreEach (AreRelayFlows l.fn.site l.fn.class) l.relay l.relays.items;
+  all : l.relay-end ≡ length l.fn.site.relays;
+  within : l.relay ≤ l.relay-end;
+}
