@@ -1,9 +1,3 @@
 pub mod Lineup
 pub mod Owners
 pub mod Telling
-pub mod Coming
-pub mod Execution
-pub mod Gathered
-pub mod Held
-pub mod Starting
-pub mod Holders

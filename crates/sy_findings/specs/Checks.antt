@@ -18,8 +18,8 @@ use Rattle.sy_site.specs.declared.finding.Kind.TheVariants as kind
 use Rattle.sy_site.specs.declared.finding.WayRow.{WayRow}
 use Rattle.sy_cert.specs.CertificateValue.{Certificate}
 use Rattle.sy_cert.specs.Rows.{IsCertificate, text}
-use Rattle.sy_checker.specs.Claims.{RanksStayFalling, StayConfined, StayWrittenOrHead}
-use Rattle.sy_checker.specs.Fit.{AreProtected, IsFitFor}
+use Rattle.sy_fit.specs.Claims.{RanksStayFalling, StayConfined, StayWrittenOrHead}
+use Rattle.sy_fit.specs.Fit.{AreProtected, IsFitFor}
 use Rattle.sy_checker.specs.declared.kinds.groups.Group.{Group}
 use Rattle.sy_findings.specs.declared.verdicts.instances.Instance.{Instance}
 use Rattle.sy_findings.specs.Instances.{AreInstances}

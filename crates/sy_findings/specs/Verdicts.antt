@@ -3,9 +3,9 @@ use Rattle.std.specs.Prelude.{◌≡◌, ℕ, Bool, true, false, List, ◌∷◌
 use Rattle.std.specs.Fmt.{decimal}
 use Rattle.sy_site.specs.Sites.{Site}
 use Rattle.sy_cert.specs.CertificateValue.{Certificate}
-use Rattle.sy_checker.specs.Fit.{IsFitFor, IsWrongFor}
-use Rattle.sy_checker.specs.Verifying.{kind_words}
-use Rattle.sy_checker.specs.declared.rows.wanted.RowKind.{RowKind}
+use Rattle.sy_fit.specs.Fit.{IsFitFor, IsWrongFor}
+use Rattle.sy_fit.specs.Verifying.{kind_words}
+use Rattle.sy_fit.specs.declared.rows.wanted.RowKind.{RowKind}
 use Rattle.sy_report.specs.Reports.{line_feed}
 use Rattle.sy_findings.specs.Checks.{KeepsAll, accepted_line}
 

@@ -1,6 +1,5 @@
-//! What is said of a site that is read: its verdict, notes of what is found in it, and warnings.
+//! What is said of a site that is read: its verdict, and notes of what is found in it.
 #![tactic(auto)]
 
 pub mod notes;
 pub mod verdicts;
-pub mod warnings;

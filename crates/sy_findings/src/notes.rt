@@ -1,10 +1,8 @@
 //! Notes of findings: where what is found stands, why messages are lost by it, and what would change that.
 
-pub mod endpoints;
 pub mod explanation;
 pub mod instances;
 pub mod object_meant;
-pub mod objects;
 pub mod queues;
 pub mod remedies;
 pub mod spares;

@@ -1,7 +1,6 @@
 //! Notes of findings: where what is found stands, why messages are lost by it, and what would change that.
 
 use crate::notes::object_meant::{Meant, find_meant, relay_meant};
-use crate::notes::objects::{push_with_place, stands_at};
 use crate::notes::queues::{
     is_marked, push_discarding, push_mark_above_size, push_mark_off, push_not_full, push_post,
     push_unmarked,
@@ -26,6 +25,7 @@ use sy_report::texts::words::Words;
 use sy_rules::{Occurrence, QueueParameters};
 use sy_site::Site;
 use sy_site::finding::{Finding, Kind};
+use sy_warnings::objects::{push_with_place, stands_at};
 
 /// What a finding is about: its input, an object with its file, and a queue, by its number too.
 #[derive(Clone, Copy)]

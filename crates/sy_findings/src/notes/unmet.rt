@@ -1,7 +1,6 @@
 //! Why messages don't come to an archive: the statement, or the spare line, that keeps them from it, and the path up to
 //! there.
 
-use crate::notes::objects::{push_thing, push_with_place, stands_at};
 use crate::notes::way_to_archive::{
     Search, Wanted, archive_of, push_moved, push_name, push_path, push_wanted, search_of, spare_at,
     target_of, wanted_at,
@@ -18,6 +17,7 @@ use sy_report::texts::parts::{Part, action_name, relay_name};
 use sy_report::texts::words::Words;
 use sy_site::finding::Finding;
 use sy_site::{Site, SiteAction};
+use sy_warnings::objects::{push_thing, push_with_place, stands_at};
 
 // The statement that keeps messages off in a list, by the file of its relay.
 fn hindrance_in(

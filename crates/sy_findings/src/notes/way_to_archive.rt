@@ -1,6 +1,5 @@
 //! Where the way to an archive breaks off, in words: what leads on there, and the path up to there.
 
-use crate::notes::objects::push_thing;
 use sy_places::relay_file::places::{Places, Thing};
 use sy_places::ways::hindrance::Target;
 use sy_places::ways::relay_parts::{is_spare, name_of_list, owner_of};
@@ -9,6 +8,7 @@ use sy_report::texts::parts::{Part, action_name, input_part};
 use sy_report::texts::words::Words;
 use sy_rules::{Occurrence, Plan};
 use sy_site::{Site, SiteAction};
+use sy_warnings::objects::push_thing;
 
 /// What is looked for: where the way breaks off, and the archive with its relay's objects.
 #[derive(Clone, Copy)]

@@ -1,7 +1,7 @@
 //! The verdict on a certificate, and its line.
 ghost use Rattle.std.specs.Prelude.{◌≡◌, IfErr, IfOk, OnOk, false};
-ghost use Rattle.sy_checker.specs.Fit.{IsFitFor};
-ghost use Rattle.sy_checker.specs.Verifying.{IsFault};
+ghost use Rattle.sy_fit.specs.Fit.{IsFitFor};
+ghost use Rattle.sy_fit.specs.Verifying.{IsFault};
 ghost use Rattle.sy_findings.specs.Checks.{KeepsAll};
 ghost use Rattle.sy_findings.specs.Verdicts as spec;
 

@@ -1,6 +1,0 @@
-use Rattle.sy_findings.specs.internal.Holding.{StandsForSome}
-use Rattle.sy_findings.proofs.Execution.{NotBelow}
-use Rattle.sy_findings.proofs.warnings.bottleneck.bottleneck_in.Given as goal
-
-abbrev pub invariant-loop-list : goal.invariant-loop-list
-invariant-loop-list l = NotBelow (λ list. StandsForSome l.site (record { relay = l.relay; list = list }) l.action) l.list

@@ -1,5 +1,0 @@
-use Rattle.sy_findings.specs.internal.Following.{AreInputsBelow}
-use Rattle.sy_findings.proofs.warnings.coming.every_input.Given as goal
-
-abbrev pub invariant-loop-relay : goal.invariant-loop-relay
-invariant-loop-relay l = AreInputsBelow l.site l.relay l.found.items

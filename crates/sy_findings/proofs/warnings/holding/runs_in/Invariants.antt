@@ -1,7 +1,0 @@
-use Rattle.sy_rules.specs.declared.lists.occurrence.Occurrence.TheVariants as occurrence
-use Rattle.sy_findings.specs.Following.{IsExecuted}
-use Rattle.sy_findings.proofs.Execution.{NotBelow}
-use Rattle.sy_findings.proofs.warnings.holding.runs_in.Given as goal
-
-abbrev pub invariant-loop-number : goal.invariant-loop-number
-invariant-loop-number l = NotBelow (λ number. IsExecuted l.site l.by l.at number (occurrence.Run l.action)) l.number
