@@ -7,11 +7,9 @@
 pub mod between;
 mod connection;
 pub mod connection_end;
-mod draining;
 pub mod fault;
 pub mod laws;
 mod locked;
-mod losing;
 pub mod reader;
 pub mod relay;
 pub mod shared;

@@ -3,12 +3,13 @@ ghost use Rattle.std.specs.Prelude.{◌≡◌, ◌<◌, IfOk, IfSome, IsTrue};
 ghost use Rattle.sy_board.specs.relay.Boards.{account_of};
 ghost use Rattle.sy_runtime.specs.Standing.{held_by};
 
+pub(crate) mod losing;
 pub(crate) mod tally;
 
 use crate::connection::halt::Halt;
 use crate::connection::taking::{Hand, has_hand};
+use crate::locked::losing::Lost;
 use crate::locked::tally::Tally;
-use crate::losing::Lost;
 use crate::standing::held_of;
 use sy_chain::Node;
 use sy_marks::Hold;

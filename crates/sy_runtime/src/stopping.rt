@@ -2,6 +2,8 @@
 ghost use Rattle.std.specs.Prelude.{◌≡◌, IfOk, IfSome, IsTrue, map, option_copied, sum_by};
 ghost use Rattle.sy_runtime.specs.Stopping.{Stops};
 
+mod draining;
+
 use crate::connection_end::ConnEnd;
 use crate::relay::Relay;
 use crate::shared::{BoxedDevice, Gate, Shared};

@@ -3,7 +3,7 @@
 use crate::connection::taking::Hand;
 use crate::connection::used::keep;
 use crate::locked::Locked;
-use crate::losing::{Moved, report_lost, report_lost_at_queue, report_moved};
+use crate::locked::losing::{Moved, report_lost, report_lost_at_queue, report_moved};
 use crate::shared::{Gate, Shared};
 use std::alloc::Global;
 use std::sync::{MutexGuard, Wait};

@@ -6,7 +6,7 @@ pub mod recording;
 pub mod working;
 
 use crate::locked::Locked;
-use crate::losing::report_lost_at_queue;
+use crate::locked::losing::report_lost_at_queue;
 use crate::shared::{Gate, Shared};
 use crate::waiting::{MEMORY_WAIT, pause, wait_for_room};
 use crate::worker::finding::Next;

@@ -5,7 +5,6 @@ mod fields;
 mod heads;
 pub mod hint;
 pub mod joining;
-mod judged;
 pub mod laws;
 pub mod names;
 mod parts;

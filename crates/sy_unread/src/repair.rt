@@ -9,11 +9,13 @@ ghost use Rattle.sy_unread.specs.Words.{IsWord};
 ghost use Rattle.sy_wire.specs.Frames.{MAX_FRAME};
 ghost use Rattle.sy_wire.specs.Timestamps.{IsTimestamp};
 
+mod judged;
+
 use crate::heads::{Head, from, head_3164, head_5424};
 use crate::hint::{Hint, pri_length};
-use crate::judged::checked;
 use crate::names::{append_name, front};
 use crate::parts::{append_escaped, append_number};
+use crate::repair::judged::checked;
 use crate::repaired::{Repair, Repaired};
 use std::alloc::{AllocError, Global};
 use sy_wire::Message;

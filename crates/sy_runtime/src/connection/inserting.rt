@@ -7,7 +7,7 @@ use crate::connection::halt::Halt;
 use crate::connection::keeping::keep_unread;
 use crate::connection::taking::{Hand, Pause};
 use crate::connection_end::{ConnEnd, UnreadSink};
-use crate::losing::{Moved, report_moved};
+use crate::locked::losing::{Moved, report_moved};
 use crate::shared::{Gate, Shared};
 use crate::untaken::Item;
 use crate::waiting::{Waiting, wait_and_report};

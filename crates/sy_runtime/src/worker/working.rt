@@ -7,7 +7,7 @@ ghost use Rattle.sy_board.specs.relay.Steps.{Job as IsJob};
 ghost use Rattle.sy_runtime.specs.internal.Finding.{WaitsAtMark};
 
 use crate::locked::Locked;
-use crate::losing::{Lost, lost_before, lost_since};
+use crate::locked::losing::{Lost, lost_before, lost_since};
 use crate::worker::finding::{Next, has_worker};
 use crate::worker::posting::patience;
 use crate::worker::recording::After;

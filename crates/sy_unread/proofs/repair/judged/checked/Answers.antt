@@ -1,7 +1,7 @@
 use Rattle.std.proofs.Common.{◌+◌, ◌*◌, ◌++◌, ◌∙◌, ap, sym}
 use Rattle.sy_wire.specs.Messages.{Said}
 use Rattle.sy_wire.proofs.Options.{if_none_then}
-use Rattle.sy_unread.proofs.judged.checked.Goals as goal
+use Rattle.sy_unread.proofs.repair.judged.checked.Goals as goal
 
 pub returns-in-Ok-clause-none : goal.returns-in-Ok-clause-none
 returns-in-Ok-clause-none c =

@@ -1,6 +1,6 @@
 use Rattle.std.proofs.Common.{rules, ◌+◌, ◌*◌, ap, arith}
 use Rattle.sy_wire.specs.declared.class.Class.{Class}
-use Rattle.sy_unread.proofs.judged.placed.Goals as goal
+use Rattle.sy_unread.proofs.repair.judged.placed.Goals as goal
 
 pub returns-then-same_text-clause-some : goal.returns-then-same_text-clause-some
 returns-then-same_text-clause-some c =
