@@ -1,6 +1,2 @@
 pub mod Counted
-pub mod Cutting
-pub mod LeftFrames
-pub mod Offers
 pub mod Sent
-pub mod Unkept

@@ -12,7 +12,7 @@ use Rattle.sy_runtime.specs.Stopping.{Stops}
 use Rattle.sy_runtime.specs.declared.untaken.Untaken.{Untaken}
 use Rattle.sy_report.specs.Printed.{printed}
 use Rattle.sy_report.specs.Reports.{line_feed}
-use Rattle.sy_host.specs.Left.{Keeps}
+use Rattle.sy_outlets.specs.Left.{Keeps}
 
 -- the losses: at an input or in its hand, by a post, and as an entry left a queue
 abbrev pub lost : Totals → ℕ

@@ -2,15 +2,10 @@
 
 pub mod control;
 pub mod finishing;
-pub mod left;
-pub mod left_file;
-pub mod remaining;
 pub mod status;
 pub mod totals;
 pub mod unfinished;
 
-use crate::listening::connections::Side;
-use crate::listening::serving::Serving;
 use std::alloc::{AllocError, Global};
 use std::net::{IpAddr, Ipv4Addr, Ipv6Addr, Net, SocketAddr, TcpListener, TcpStream};
 use std::sync::atomic::{AtomicBool, Ordering};
@@ -18,6 +13,8 @@ use std::sync::{Arc, Wait};
 use std::thread;
 use std::thread::Threads;
 use std::time::{Clock, Duration, Instant};
+use sy_inputs::connections::Side;
+use sy_inputs::serving::Serving;
 use sy_rules::Input;
 use sy_runtime::ConnEnd;
 use sy_wire::Sink;

@@ -3,21 +3,21 @@
 pub mod port_lines;
 pub mod printing_thread;
 
-use crate::listening::serving::Serving;
 use crate::reporting::port_lines::{PortPace, print_due, print_left};
 use crate::reporting::printing_thread::wait_for_printing;
-use crate::rotation::troubles::earlier;
 use crate::watching::noted::date;
 use std::alloc::{AllocError, Global};
 use std::sync::{Arc, Wait};
 use std::thread;
 use std::thread::Threads;
 use std::time::{Clock, Instant};
+use sy_inputs::serving::Serving;
 use sy_log::at_port::end_words;
 use sy_log::lines::{peer_line, subject_line};
 use sy_log::log::Log;
 use sy_log::notices::{Line, Reported};
 use sy_log::subject::Subject;
+use sy_outlets::rotation::troubles::earlier;
 use sy_wire::Sink;
 
 // What was told of a subject, and when the lines of its port may be.

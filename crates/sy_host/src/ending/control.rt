@@ -1,11 +1,13 @@
 //! What standard input asks of a running relay.
 
-use crate::listening::connector::Connector;
-use crate::listening::serving::Serving;
-use crate::rotation::reopens::Reopens;
+use crate::ending::status::report_totals;
+use crate::watching::writing::report_document;
 use std::alloc::Global;
 use std::sync::Wait;
 use std::time::Clock;
+use sy_inputs::connector::Connector;
+use sy_inputs::serving::Serving;
+use sy_outlets::rotation::reopens::Reopens;
 use sy_rules::Action;
 use sy_wire::{Sink, Source};
 
@@ -94,10 +96,10 @@ fn answer<R: Wait + Clock, C: Connector, E: Sink + Drop>(
     match request {
         Request::Reopen => of.reopens.ask(),
         Request::Status => match of.relay.status(rt, alloc) {
-            Some(standing) => of.serving.report_totals(rt, alloc, of.actions, &standing),
+            Some(standing) => report_totals(rt, alloc, of.serving, of.actions, &standing),
             None => of.serving.report_text(rt, "no memory"),
         },
-        Request::StatusJson => of.serving.report_document(rt, alloc, of.relay),
+        Request::StatusJson => report_document(rt, alloc, of.serving, of.relay),
     }
 }
 

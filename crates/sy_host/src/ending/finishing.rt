@@ -1,20 +1,20 @@
 //! How a relay that was served ends: its totals are printed, and what it leaves is kept.
 ghost use Rattle.std.specs.Prelude.{◌≡◌, ◌≤◌, ◌<◌, ◌^◌, List, Option, true, IfOk, length, map};
 ghost use Rattle.sy_board.specs.relay.Totals.{GuardState};
-ghost use Rattle.sy_host.specs.Left.{Keeps, KeepsFile};
+ghost use Rattle.sy_outlets.specs.Left.{Keeps, KeepsFile};
 ghost use Rattle.sy_runtime.specs.Connections.{Counts};
 ghost use Rattle.sy_host.specs.Totals.{EndsWithTotals, IsReported, WroteTotals, unread_of};
 ghost use Rattle.sy_host.specs.internal.Served.{IsLeft};
 
-use crate::ending::left::{KeepFault, Store, keep_left};
-use crate::ending::remaining::sort;
 use crate::ending::totals::{TotalsFault, numbers_of, write_totals};
 use crate::ending::unfinished::report_unfinished;
-use crate::listening::serving::Serving;
 use std::alloc::Global;
 use std::collections::VecDeque;
 use std::sync::Wait;
 use sy_chain::Chain;
+use sy_inputs::serving::Serving;
+use sy_outlets::leaving::left::{KeepFault, Store, keep_left};
+use sy_outlets::leaving::remaining::sort;
 use sy_rules::laws::plans_are_whole;
 use sy_rules::{Action, Input, Plan};
 use sy_runtime::{Mismatch, Stopped, Untaken};

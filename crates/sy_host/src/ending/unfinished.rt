@@ -1,10 +1,10 @@
 //! The lines of what connections had sent and the relay didn't take when it stopped.
 
-use crate::ending::remaining::{Counted, Sorted, Unkept};
-use crate::listening::serving::Serving;
 use std::alloc::{AllocError, Global};
 use std::sync::Wait;
+use sy_inputs::serving::Serving;
 use sy_log::lines::append_first;
+use sy_outlets::leaving::remaining::{Counted, Sorted, Unkept};
 use sy_report::texts::parts::{Part, append_parts};
 use sy_rules::Input;
 use sy_wire::Sink;

@@ -1,9 +1,8 @@
 //! When the lines about frames without a message and about faults of an input's connections are printed.
 
-use crate::listening::serving::Serving;
-use crate::rotation::troubles::earlier;
 use std::alloc::{AllocError, Global};
 use std::sync::{Mutex, Wait};
+use sy_inputs::serving::Serving;
 use sy_log::at_port::{
     append_at_port, append_at_port_often, append_unread, append_unread_often, end_words,
 };
@@ -11,6 +10,7 @@ use sy_log::lines::sending_line;
 use sy_log::pauses::Pace;
 use sy_log::peers::Ended;
 use sy_log::unreported::{FAULTS, Faulted, UnreadFrames};
+use sy_outlets::rotation::troubles::earlier;
 use sy_wire::Sink;
 
 /// When the next line of each kind may be printed about an input.

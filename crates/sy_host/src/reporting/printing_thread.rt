@@ -1,11 +1,11 @@
 //! The thread that prints what a relay that runs has to say.
 
-use crate::listening::serving::Serving;
 use std::alloc::AllocError;
 use std::sync::{Arc, Wait};
 use std::thread;
 use std::thread::Threads;
 use std::time::{Clock, Duration};
+use sy_inputs::serving::Serving;
 use sy_wire::Sink;
 
 /// For how many milliseconds the last lines are waited for: nobody may read them.

@@ -1,13 +1,13 @@
 //! The thread that writes the file of the metrics, and the document of a relay's status.
 
-use crate::listening::connector::Connector;
-use crate::listening::serving::Serving;
 use crate::watching::noted::noted;
 use std::alloc::{AllocError, Global};
 use std::sync::{Arc, Wait};
 use std::thread;
 use std::thread::Threads;
 use std::time::{Clock, Instant};
+use sy_inputs::connector::Connector;
+use sy_inputs::serving::Serving;
 use sy_report::texts::reason::Reason;
 use sy_runtime::{Mismatch, Stopped};
 use sy_watched::document::document;
@@ -184,28 +184,31 @@ pub fn end_metrics<R: Wait + Clock, E: Sink + Drop>(
     serving.watch().finish(rt, last.ok());
 }
 
-impl<E: Sink + Drop> Serving<E> {
-    /// Prints what is watched of a relay, as a JSON document in one line.
-    pub fn report_document<R: Wait + Clock, C: Connector>(&self, rt: &R, alloc: Global, relay: &C) {
-        let text = match relay.status(rt, alloc) {
-            Some(standing) => self.document_of(rt, alloc, running(now(rt), &standing)),
-            None => Err(AllocError),
-        };
-        match text {
-            Ok(text) => self.report_line(rt, text.as_slice()),
-            Err(_) => self.report_text(rt, "no memory"),
-        }
-    }
+// The document of a relay with these totals.
+fn document_of<R: Clock, E: Sink + Drop>(
+    rt: &R,
+    alloc: Global,
+    serving: &Serving<E>,
+    moment: Moment<'_>,
+) -> Result<Vec<u8>, AllocError> {
+    let noted = noted(rt, alloc, serving.log())?;
+    let seen = watched(alloc, serving.watch(), noted.all(), moment)?;
+    document(alloc, &seen)
+}
 
-    // The document of a relay with these totals.
-    fn document_of<R: Clock>(
-        &self,
-        rt: &R,
-        alloc: Global,
-        moment: Moment<'_>,
-    ) -> Result<Vec<u8>, AllocError> {
-        let noted = noted(rt, alloc, self.log())?;
-        let seen = watched(alloc, self.watch(), noted.all(), moment)?;
-        document(alloc, &seen)
+/// Prints what is watched of a relay, as a JSON document in one line.
+pub fn report_document<R: Wait + Clock, C: Connector, E: Sink + Drop>(
+    rt: &R,
+    alloc: Global,
+    serving: &Serving<E>,
+    relay: &C,
+) {
+    let text = match relay.status(rt, alloc) {
+        Some(standing) => document_of(rt, alloc, serving, running(now(rt), &standing)),
+        None => Err(AllocError),
+    };
+    match text {
+        Ok(text) => serving.report_line(rt, text.as_slice()),
+        Err(_) => serving.report_text(rt, "no memory"),
     }
 }

@@ -7,7 +7,7 @@ use Rattle.sy_runtime.specs.Connections.{Counts}
 use Rattle.sy_runtime.specs.Stopping.{Stops}
 use Rattle.sy_rules.specs.PlanValue.{Plan}
 use Rattle.sy_site.specs.Sites.{plan_at}
-use Rattle.sy_host.specs.Left.{KeepsFile}
+use Rattle.sy_outlets.specs.Left.{KeepsFile}
 use Rattle.sy_host.specs.Totals.{EndsWithTotals}
 use Rattle.sy_host.specs.internal.Served.{IsLeft}
 use Rattle.sy_host.proofs.serve.serve_started.Goals as goal

@@ -1,0 +1,3 @@
+pub mod WholeEntries
+pub mod Listened
+pub mod internal

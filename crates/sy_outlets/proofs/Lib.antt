@@ -1,0 +1,4 @@
+pub mod Cutting
+pub mod LeftFrames
+pub mod Offers
+pub mod Sent
