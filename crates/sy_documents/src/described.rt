@@ -6,7 +6,6 @@ use std::alloc::{AllocError, Global};
 use sy_findings::notes::explanation::note_of_finding;
 use sy_findings::notes::instances::{finding_of as finding_of_instance, note_of_instance};
 use sy_findings::verdicts::instances::Instance;
-use sy_findings::warnings::Warning;
 use sy_places::site_file::texts::SiteTexts;
 use sy_places::ways::followed_lists::circle;
 use sy_places::ways::relay_parts::{name_of_list, spot_at};
@@ -15,6 +14,7 @@ use sy_report::texts::parts::{Part, action_name, append_parts, port_of, relay_na
 use sy_rules::{Occurrence, Plan};
 use sy_site::finding::{Finding, Kind, WayRow};
 use sy_site::{Site, SiteAction, SiteInput};
+use sy_warnings::warnings::Warning;
 use sy_wire::Class;
 use sy_wire::numbers::number_up_to;
 

@@ -10,13 +10,13 @@ use sy_checker::survey;
 use sy_faults::all_faults::other_faults;
 use sy_findings::verdicts::instances::instances_of;
 use sy_findings::verdicts::verdict::WrongRow;
-use sy_findings::warnings::warnings_of;
 use sy_places::site_file::texts::SiteTexts;
 use sy_places::ways::executed::protected_classes;
 use sy_report::command_line::options::Options;
 use sy_report::outcome::halt::{Halt, status_of};
 use sy_site::Site;
 use sy_site::finding::Finding;
+use sy_warnings::warnings::warnings_of;
 
 /// The version of the documents' shape.
 const FORMAT: u64 = 1;
@@ -238,7 +238,7 @@ fn faults_of(
         return Ok(faults);
     }
     match other_faults(alloc, texts, halt) {
-        Ok(others) => with_others(alloc, faults, others.as_slice()),
+        Ok(others) => with_others(alloc, faults, others.faults.as_slice()),
         Err(why) => Err(why),
     }
 }

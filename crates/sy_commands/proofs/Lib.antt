@@ -1,0 +1,12 @@
+pub mod CommandWords
+pub mod Courses
+pub mod Cutting
+pub mod Drawn
+pub mod Endings
+pub mod Ends
+pub mod Failing
+pub mod NoMemory
+pub mod Optioned
+pub mod Replayed
+pub mod Said
+pub mod ReportLaws

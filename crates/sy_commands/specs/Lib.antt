@@ -1,0 +1,14 @@
+pub mod Words
+pub mod Reports
+pub mod Replays
+pub mod SiteFiles
+pub mod Outcomes
+pub mod Checks
+pub mod Graphs
+pub mod Verdicts
+pub mod Optioned
+pub mod CommandReports
+pub mod Requests
+pub mod Built
+pub mod Halts
+pub mod internal

@@ -1,0 +1,4 @@
+pub mod Carrying
+pub mod Passes
+pub mod Ready
+pub mod Statuses

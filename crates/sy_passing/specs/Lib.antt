@@ -1,0 +1,4 @@
+pub mod Pass
+pub mod Stops
+pub mod Ways
+pub mod internal

@@ -1,0 +1,3 @@
+pub mod Guarding
+pub mod Halted
+pub mod RunArgs

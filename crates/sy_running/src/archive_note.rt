@@ -1,0 +1,117 @@
+//! The note of an archive that can't be opened.
+
+use crate::start_notes::{kind_of, lines_of, note_at, push_folder, push_reason};
+use std::alloc::{AllocError, Global};
+use std::io::ErrorKind;
+use sy_places::relay_file::places::Thing;
+use sy_places::site_file::texts::SiteTexts;
+use sy_report::texts::note::Note;
+use sy_report::texts::parts::Part;
+use sy_report::texts::reason::Reason;
+use sy_rules::Destination;
+use sy_site::Site;
+
+/// An archive that can't be opened: the number of its action, the reason where the host gave one, and the folder in which
+/// names that aren't absolute are looked for, where that is known.
+#[derive(Clone, Copy)]
+pub struct Unopened<'a> {
+    pub action: usize,
+    pub reason: Option<Reason>,
+    pub folder: Option<&'a str>,
+}
+
+// The folder in a file's name, with its last slash; none where the name has no slash.
+fn folder_in(name: &[u8]) -> &[u8] {
+    match name.iter().rposition(|byte| *byte == b'/') {
+        Some(at) => {
+            let (folder, _) = name.split_at(at.saturating_add(1).min(name.len()));
+            folder
+        }
+        None => &[],
+    }
+}
+
+// Says that a file's folder isn't there.
+fn push_no_folder(note: &mut Note, name: &[u8], folder: Option<&str>) {
+    let own = folder_in(name);
+    note.why.say(": no such folder");
+    if !own.is_empty() {
+        note.why.append(&[Part::Text(b" as "), Part::Text(own)]);
+    }
+    push_folder(&mut note.why, name, folder);
+    note.change
+        .say("make that folder, or another name in that line");
+}
+
+// Says why a file can't be opened for appending.
+fn push_unopened(
+    alloc: Global,
+    note: &mut Note,
+    name: &[u8],
+    why: Unopened<'_>,
+) -> Result<(), AllocError> {
+    note.why.append(&[Part::Text(name)]);
+    match kind_of(why.reason) {
+        ErrorKind::NotFound => push_no_folder(note, name, why.folder),
+        ErrorKind::NotADirectory => {
+            note.why.say(": what stands before a / is no folder");
+            note.change.say("the name of a file in a folder");
+        }
+        ErrorKind::PermissionDenied => {
+            note.why.say(": permission denied");
+            note.change.say(
+                "let the user that starts syc write it, as by chown or setfacl, and enter its folders",
+            );
+        }
+        ErrorKind::IsADirectory => {
+            note.why.say(" is a directory");
+            note.change.say("the name of a file");
+        }
+        ErrorKind::ReadOnlyFilesystem => {
+            note.why.say(": the file system is read-only");
+            note.change.say(
+                "a folder that can be written (ReadWritePaths= or StateDirectory= of a unit)",
+            );
+        }
+        _ => {
+            note.why.say(" can't be opened");
+            push_reason(alloc, &mut note.why, why.reason)?;
+            note.change.say("another file, or another disk");
+        }
+    }
+    Ok(())
+}
+
+// The name of the file to which an action writes.
+fn file_of(site: &Site, relay: u32, action: usize) -> Option<&[u8]> {
+    if relay >= site.relays() {
+        return None;
+    }
+    let action = site.plan(relay).actions().get(action)?;
+    match &action.destination {
+        Destination::Archive(file) => Some(file.as_slice()),
+        Destination::Forward(_, _) => None,
+    }
+}
+
+/// What is said of an archive that can't be opened: its action and where that stands, its file's name, why, and what to
+/// change.
+pub fn archive_words(
+    alloc: Global,
+    texts: &SiteTexts<'_>,
+    site: &Site,
+    relay: u32,
+    why: Unopened<'_>,
+) -> Result<Vec<u8>, AllocError> {
+    let number = u32::try_from(why.action).unwrap_or(u32::MAX);
+    let mut note = note_at(alloc, texts, site, relay, Thing::Action(number))?;
+    match file_of(site, relay, why.action) {
+        Some([]) => {
+            note.why.say("the name of its file is empty");
+            note.change.say("the name of a file");
+        }
+        Some(name) => push_unopened(alloc, &mut note, name, why)?,
+        None => note.why.say("its file can't be opened"),
+    }
+    lines_of(alloc, &note)
+}
