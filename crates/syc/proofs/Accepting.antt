@@ -2,8 +2,8 @@
 use Rattle.std.proofs.Common.{◌≡◌, ℕ, List}
 use Rattle.std.specs.Prelude.{Option}
 use Rattle.sy_report.specs.declared.command_line.command.Asked.TheVariants as asked
-use Rattle.syc.specs.Optioned.{KeepsAs}
-use Rattle.syc.specs.Words.{OverSite}
+use Rattle.sy_commands.specs.Optioned.{KeepsAs}
+use Rattle.sy_commands.specs.Words.{OverSite}
 
 pub keeps_on : (bytes_of : List ℕ → Option (List ℕ)) (command : OverSite) (first last : ℕ) → first ≡ 0 → KeepsAs bytes_of command first
     → KeepsAs bytes_of command last

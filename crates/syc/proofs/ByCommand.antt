@@ -7,15 +7,16 @@ use Rattle.sy_report.specs.Reports.{Streams, HasReported}
 use Rattle.sy_report.specs.declared.command_line.command.Asked.{Asked}
 use Rattle.sy_report.specs.declared.command_line.command.Asked.TheVariants as asked
 use Rattle.sy_report.specs.declared.command_line.options.Options.{Options}
-use Rattle.syc.specs.Checks.{AskedIs, AskedReport, Says, SaysWith}
-use Rattle.syc.specs.CommandReports.{SaysReport}
+use Rattle.sy_commands.specs.Checks.{AskedIs, AskedReport, Says, SaysWith}
+use Rattle.sy_commands.specs.CommandReports.{SaysReport}
 use Rattle.syc.specs.Optioned.{SaysAs}
-use Rattle.syc.specs.Outcomes.{AnswersReporting}
-use Rattle.syc.specs.Replays.{EndsReplay}
-use Rattle.syc.specs.Reports.{HasReportedBy, HasReportedFirst}
-use Rattle.syc.specs.Verdicts.{VerifiesReporting}
-use Rattle.syc.specs.Words.{OverSite, is_any}
-use Rattle.syc.specs.Requests.{no_options}
+use Rattle.sy_commands.specs.Outcomes.{AnswersReporting}
+use Rattle.sy_commands.specs.Replays.{EndsReplay}
+use Rattle.sy_commands.specs.Reports.{HasReportedBy}
+use Rattle.syc.specs.Optioned.{HasReportedFirst}
+use Rattle.sy_commands.specs.Verdicts.{VerifiesReporting}
+use Rattle.sy_commands.specs.Words.{OverSite, is_any}
+use Rattle.sy_commands.specs.Requests.{no_options}
 
 -- what is said without options
 bare_says : (question : Asked) (site : Site) (text : List ℕ) (is_accepted : Bool) → SaysWith question no_options site text is_accepted

@@ -13,7 +13,7 @@ use Rattle.sy_site.specs.texts.Lines.{is_skipped, word_lines, words}
 use Rattle.sy_site.specs.texts.Files.{file_names}
 use Rattle.sy_site.specs.texts.Shapes.{IsLine, IsProtectLine, Line, ProtectLine}
 use Rattle.sy_site.specs.texts.Describes.{AllPaired, AreLines, Describes, IsProtection, protect_lines}
-use Rattle.sy_checker.specs.Fit.{AreProtected, number_of}
+use Rattle.sy_fit.specs.Fit.{AreProtected, number_of}
 use Rattle.syc.specs.Examples.{relay_files}
 use Rattle.syc.specs.declared.examples.TheConstants.{SITE}
 

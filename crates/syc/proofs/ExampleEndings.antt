@@ -3,22 +3,22 @@ use Rattle.std.proofs.Common.{◌≡◌, ℕ, zero, suc, ◌⊎◌, inl, inr, Bo
 use Rattle.std.specs.List.{Any}
 use Rattle.std.specs.Prelude.{IfSome, Some, None, codes}
 use Rattle.sy_cert.specs.declared.row.Row.{Row}
-use Rattle.sy_checker.specs.Fit.{IsFit}
+use Rattle.sy_fit.specs.Fit.{IsFit}
 use Rattle.sy_site.specs.Sites.{Site}
 use Rattle.sy_site.specs.machine.Soundness.{IsSound}
 use Rattle.sy_site.specs.texts.Describes.{Describes, File, file_named}
 use Rattle.sy_site.specs.texts.Files.{file_names}
-use Rattle.syc.specs.Checks.{AskedIs}
+use Rattle.sy_commands.specs.Checks.{AskedIs}
 use Rattle.sy_findings.specs.Checks.{KeepsAll, accepted_line}
 use Rattle.syc.specs.Examples.{IsAccepted, IsCertified, IsReplayed, IsTheSite, IsVerified, Printed, bytes_of, files, relay_files}
-use Rattle.syc.specs.Outcomes.{FailsBy}
+use Rattle.sy_commands.specs.Outcomes.{FailsBy}
 use Rattle.sy_report.specs.Outcomes.{Prints}
-use Rattle.syc.specs.Replays.{Ending, MayRise, PiecesMayFail, ReplayIs, Replays, lines_of, opened}
+use Rattle.sy_commands.specs.Replays.{Ending, MayRise, PiecesMayFail, ReplayIs, Replays, lines_of, opened}
 use Rattle.sy_report.specs.Reports.{SinkState, Streams, HasReported}
-use Rattle.syc.specs.Replays as replays
-use Rattle.syc.specs.SiteFiles.{HasNoAnswer, HaveBytes}
+use Rattle.sy_commands.specs.Replays as replays
+use Rattle.sy_commands.specs.SiteFiles.{HasNoAnswer, HaveBytes}
 use Rattle.sy_places.specs.SiteFiles.{AreGiven, IsSiteOf}
-use Rattle.syc.specs.Verdicts.{VerifyIs}
+use Rattle.sy_commands.specs.Verdicts.{VerifyIs}
 use Rattle.sy_report.specs.declared.command_line.command.Asked.TheVariants as asked
 use Rattle.syc.specs.declared.examples.TheConstants.{CERTIFICATE, EDGE, EVENTS, HUB, SITE}
 use Rattle.syc.proofs.Example.{eight, names_are}

@@ -4,7 +4,7 @@ use Rattle.std.specs.List.{Any}
 use Rattle.std.specs.Prelude.{Option, Some, None, codes, not, ◌⊎◌}
 use Rattle.std.proofs.lemmas.List.{append-nil}
 use Rattle.sy_cert.specs.declared.row.Row.{Row}
-use Rattle.sy_checker.specs.Fit.{IsFit}
+use Rattle.sy_fit.specs.Fit.{IsFit}
 use Rattle.sy_site.specs.Sites.{Site}
 use Rattle.sy_site.specs.machine.Soundness.{IsSound}
 use Rattle.sy_site.specs.texts.Describes.{Describes, File}
@@ -17,23 +17,27 @@ use Rattle.sy_site.specs.Finding.{IsTrueFinding}
 use Rattle.sy_checker.specs.Survey.{IsSurvey}
 use Rattle.sy_site.specs.declared.finding.Finding.{Finding}
 use Rattle.sy_checker.specs.declared.kinds.groups.Group.{Group}
-use Rattle.syc.specs.Checks.{AskedInWordsIs, BeginsInWords, SaysBy, SaysCertifiedInWords}
+use Rattle.syc.specs.Optioned.{AskedInWordsIs}
+use Rattle.sy_commands.specs.Checks.{BeginsInWords, SaysBy, SaysCertifiedInWords}
 use Rattle.sy_findings.specs.declared.verdicts.instances.Instance.{Instance}
 use Rattle.sy_findings.specs.Checks.{AreLinesInWords, IsTally, IsTallyInWords, KeepsAll, accepted_line, finding_text, instance_text}
 use Rattle.syc.specs.Examples.{IsAccepted, IsCertified, IsReplayed, IsTheSite, IsVerified, Printed, bytes_of}
-use Rattle.syc.specs.Graphs.{GraphIs, IsClass, ReportsNoClass}
+use Rattle.sy_commands.specs.Graphs.{GraphIs, IsClass, ReportsNoClass}
 use Rattle.sy_drawing.specs.Graphs.{IsNoClass}
 use Rattle.sy_report.specs.HaltTexts.{halt_report, site_report}
-use Rattle.syc.specs.Optioned.{EndsAs, FailsAs, KeepsAs, SaysAs}
+use Rattle.sy_commands.specs.Optioned.{EndsAs, FailsAs, KeepsAs}
+use Rattle.syc.specs.Optioned.{SaysAs}
 use Rattle.sy_report.specs.Outcomes.{Prints}
-use Rattle.syc.specs.Replays.{ReplayInWordsIs}
-use Rattle.syc.specs.Reports.{HasReportedFirst}
+use Rattle.syc.specs.Optioned.{ReplayInWordsIs}
+use Rattle.syc.specs.Optioned.{HasReportedFirst}
 use Rattle.sy_report.specs.Reports.{Streams, HasReported}
 use Rattle.sy_report.specs.Texts.{class_text}
-use Rattle.syc.specs.SiteFiles.{HasNoAnswer}
+use Rattle.sy_commands.specs.SiteFiles.{HasNoAnswer}
 use Rattle.sy_places.specs.SiteFiles.{IsSiteFault}
-use Rattle.syc.specs.Verdicts.{DescribesKept, IsFaultyCertificate, VerifyInWordsIs}
-use Rattle.syc.specs.Words.{AreGraphWords, AreOptioned, CallFor, OverSite, allows}
+use Rattle.sy_commands.specs.Verdicts.{DescribesKept, IsFaultyCertificate}
+use Rattle.syc.specs.Optioned.{VerifyInWordsIs}
+use Rattle.sy_commands.specs.Words.{AreGraphWords, CallFor, OverSite, allows}
+use Rattle.syc.specs.Words.{AreOptioned}
 use Rattle.sy_report.specs.Words.{HaveOptions, bare_of, once_if}
 use Rattle.sy_report.specs.declared.command_line.command.Asked.{Asked}
 use Rattle.sy_report.specs.declared.command_line.command.Asked.TheVariants as asked

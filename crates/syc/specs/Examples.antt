@@ -2,12 +2,12 @@
 use Rattle.std.specs.Prelude.{◌≡◌, ℕ, true, List, [], ◌∷◌, ◌++◌, Option, codes}
 use Rattle.std.specs.Io.KnownBytes.{Appends}
 use Rattle.sy_cert.specs.CertificateValue.{Certificate}
-use Rattle.sy_checker.specs.Fit.{IsFitFor}
+use Rattle.sy_fit.specs.Fit.{IsFitFor}
 use Rattle.sy_site.specs.Sites.{Site}
 use Rattle.sy_site.specs.texts.Describes.{file, Describes, File, file_named}
 use Rattle.sy_site.specs.machine.Soundness.{IsSound}
 use Rattle.sy_findings.specs.Checks.{IsTextOf, KeepsAll, accepted_line}
-use Rattle.syc.specs.Replays.{Ending, Replays, lines_of, opened}
+use Rattle.sy_commands.specs.Replays.{Ending, Replays, lines_of, opened}
 use Rattle.sy_report.specs.Reports.{Streams}
 use Rattle.syc.specs.declared.examples.TheConstants.{CERTIFICATE, EDGE, EVENTS, HUB, SITE}
 

@@ -1,13 +1,13 @@
 //! Commands over the example site (`examples/site`), with its files in memory, and what is known of their answers then.
 //! Nothing calls these functions; their contracts are laws.
 ghost use Rattle.std.specs.Prelude.{◌≡◌, IfOk, codes, map, string_bytes};
-ghost use Rattle.syc.specs.Checks.{AskedIs};
+ghost use Rattle.sy_commands.specs.Checks.{AskedIs};
 ghost use Rattle.syc.specs.Examples as spec;
 ghost use Rattle.sy_report.specs.Memory.{given};
-ghost use Rattle.syc.specs.Outcomes.{FailsBy};
-ghost use Rattle.syc.specs.Replays.{ReplayIs};
-ghost use Rattle.syc.specs.Verdicts.{VerifyIs};
-ghost use Rattle.syc.specs.Words.{AreAskingOf, AreReplayOf, AreVerifyOf};
+ghost use Rattle.sy_commands.specs.Outcomes.{FailsBy};
+ghost use Rattle.sy_commands.specs.Replays.{ReplayIs};
+ghost use Rattle.sy_commands.specs.Verdicts.{VerifyIs};
+ghost use Rattle.sy_commands.specs.Words.{AreAskingOf, AreReplayOf, AreVerifyOf};
 ghost use Rattle.sy_report.specs.declared.command_line.command.Asked.{Asked};
 ghost use Rattle.sy_report.specs.declared.command_line.command.Asked.TheVariants as asked;
 

@@ -1,12 +1,12 @@
 //! The option by which each relay of a site is drawn in full.
 ghost use Rattle.std.specs.Prelude.{◌≤◌};
 
-use crate::commands::{Request, request_of};
-use crate::graph::{Extent, graph};
 use crate::taking::{is_first, take_option};
 use crate::usage::refusal;
 use crate::wrong_words::refuse;
 use std::alloc::Global;
+use sy_commands::commands::{Request, request_of};
+use sy_commands::graph::{Extent, graph};
 use sy_report::command_line::options::given_words;
 use sy_report::outcome::stop::out_of_memory;
 use sy_report::reading::files::Files;

@@ -1,40 +1,30 @@
 //! The program `syc`.
 #![tactic(auto)]
 
-ghost use Rattle.std.specs.Prelude.{◌≡◌, ◌<◌, IfSome, length, option_map};
+ghost use Rattle.std.specs.Prelude.{◌≡◌, ◌<◌, IfOk, IfSome, length, option_map};
 ghost use Rattle.sy_board.specs.relay.Guards.{MayGuard};
 ghost use Rattle.sy_site.specs.Sites.{plan_at};
-ghost use Rattle.sy_host.specs.WholeEntries.{KeepsWhole};
+ghost use Rattle.sy_inputs.specs.WholeEntries.{KeepsWhole};
 
-mod check;
-mod commands;
 mod examples;
+mod explain;
+mod folder;
 mod full;
-mod graph;
 mod laws;
-mod pass;
-mod reading;
-mod replay;
-mod reporting;
+mod prepare;
 mod run;
-mod running;
 mod strict;
 mod taking;
 mod unread;
 mod usage;
-mod verify;
-mod wanted_row;
+mod version;
 mod wrong_words;
 
+use explain::{explain, is_explain};
+use folder::enter_folder;
 use full::{draw_in_full, take_full};
+use prepare::prepare;
 use run::run;
-use running::explaining::{explain_no_memory, explain_refused, explain_status, explained_by};
-use running::identity::runs_line;
-use running::left_store::store_of;
-use running::opening::{Opened, Wanted, open_all};
-use running::prepare::prepare;
-use running::streams::{report_input, take_closed_streams};
-use running::words::{RunWords, is_run};
 use std::env;
 use std::io::BufWriter;
 use std::net::{Net, TcpListener, TcpStream};
@@ -46,19 +36,26 @@ use std::thread::Threads;
 use std::time::Clock;
 use strict::{refuse_warnings, run_strictly, take_strict};
 use sy_board::Guard;
+use sy_commands::wanted_row::explain_unfit;
 use sy_endpoints::outlets::{Outlet, outlets};
-use sy_host::devices::opening::Signals;
-use sy_host::ending::left_file::LeftFiles;
-use sy_host::listening::serving::{Notices, Serving};
 use sy_host::serve::{Served, serve};
+use sy_inputs::serving::{Notices, Serving};
+use sy_outlets::devices::opening::Signals;
+use sy_outlets::leaving::left_file::LeftFiles;
 use sy_report::command_line::any_file::take_any_file;
 use sy_report::outcome::stop;
 use sy_report::reading::files::{HostFiles, Kinds};
 use sy_report::writing::outputs::Outputs;
+use sy_running::explaining::{explain_no_memory, explain_refused, explain_status, explained_by};
+use sy_running::left_store::store_of;
+use sy_running::opening::{Opened, Wanted, open_all};
+use sy_running::runs_lines::runs_lines;
+use sy_running::streams::{report_input, take_closed_streams};
+use sy_running::words::{RunWords, is_run};
 use sy_site::Site;
 use sy_wire::{Buffered, FromRead, FromWrite, Sink, Source};
 use unread::{is_unread, unread};
-use wanted_row::explain_unfit;
+use version::{is_version, tell_version};
 
 /// How many bytes of lines are held back until the next read.
 const OUTPUT_BUFFER: usize = 65536;
@@ -78,6 +75,16 @@ fn main(rt: HostRuntime) -> ExitCode {
         Ok(begun) => begun,
         Err(status) => return ExitCode::from(status),
     };
+    if let Err(status) = enter_folder(&rt, &mut words, &mut out.errors) {
+        return ExitCode::from(status);
+    }
+    if is_version(words.as_slice()) {
+        let files = HostFiles::new(&rt, Kinds::Regular);
+        return ExitCode::from(tell_version(rt.alloc(), words.as_slice(), &files, &mut out));
+    }
+    if is_explain(words.as_slice()) {
+        return ExitCode::from(explain(rt.alloc(), words.as_slice(), &mut out));
+    }
     if is_unread(words.as_slice()) {
         return ExitCode::from(unread(&rt, words.as_slice(), &mut out));
     }
@@ -114,21 +121,13 @@ where
     R: Net<Listener = TcpListener, Stream = TcpStream>,
 {
     let alloc = host.alloc();
-    let (site, relay, guard, found, identity) = match prepare(
-        alloc,
-        words,
-        &HostFiles::new(&host, kinds),
-        &mut out,
-    ) {
+    let files = HostFiles::new(&host, kinds);
+    let (site, relay, guard, found, identity) = match prepare(alloc, words, &files, &mut out) {
         Ok(prepared) => prepared,
         Err(status) => return status,
     };
-    if is_strict {
-        let files = HostFiles::new(&host, kinds);
-        let status = refuse_warnings(alloc, &files, found.site, false, &mut out);
-        if status != 0 {
-            return status;
-        }
+    if let Err(status) = refuse_start(&host, found, is_strict, kinds, &mut out) {
+        return status;
     }
     let _taken = take_closed_streams(&host);
     report_input(&host, &mut out.errors);
@@ -139,7 +138,7 @@ where
         Ok(store) => store,
         Err(status) => return status,
     };
-    let Ok(runs) = runs_line(alloc, found.relay.as_bytes(), identity) else {
+    let Ok(runs) = runs_lines(alloc, &files, found.relay.as_bytes(), identity) else {
         return no_memory(&host, found, &mut out);
     };
     let wanted = Wanted {
@@ -156,6 +155,24 @@ where
     };
     let status = serve_on(rt, host, &site, relay, guard, outlets.as_slice(), with, out);
     explain_status(&rt, &host, found, status)
+}
+
+// The exit status where a start is strict and the site has warnings, which are printed.
+fn refuse_start(
+    host: &HostRuntime,
+    words: RunWords<'_>,
+    is_strict: bool,
+    kinds: Kinds,
+    out: &mut HostOutputs,
+) -> Result<(), u8> {
+    if !is_strict {
+        return Ok(());
+    }
+    let files = HostFiles::new(host, kinds);
+    match refuse_warnings(host.alloc(), &files, words.site, false, out) {
+        0 => Ok(()),
+        status => Err(status),
+    }
 }
 
 // The process's own words, which files they let it read, and its streams; or the exit status where memory ran out.
@@ -221,6 +238,27 @@ struct With<'a> {
     wanted: Wanted<'a>,
 }
 
+// The signals that the devices of a relay's actions see, and what the relay notes to and writes to; or the exit status.
+fn open<'a, E: Sink>(
+    host: HostRuntime,
+    site: &'a Site,
+    relay: u32,
+    outlets: &[Outlet<'_>],
+    wanted: Wanted<'a>,
+    errors: &mut E,
+) -> Result<(Signals, Opened), u8>
+    requires exists { relay < length site.now.relays }
+    ensures { IfOk result (λ made. length made.1.devices.items ≡ length outlets.now) }
+{
+    let Some(signals) = Signals::new(host.alloc()) else {
+        return Err(stop::out_of_memory(errors));
+    };
+    match open_all(host, site, relay, outlets, wanted, &signals, errors) {
+        Ok(opened) => Ok((signals, opened)),
+        Err(status) => Err(status),
+    }
+}
+
 // Makes the devices of a relay's actions, and serves it with the process's own streams.
 fn serve_on<R>(
     rt: R,
@@ -246,26 +284,16 @@ where
         runs,
         wanted,
     } = with;
-    let Some(signals) = Signals::new(host.alloc()) else {
-        return stop::out_of_memory(&mut out.errors);
+    let (signals, opened) = match open(host, site, relay, outlets, wanted, &mut out.errors) {
+        Ok(made) => made,
+        Err(status) => return status,
     };
     let Opened {
         log,
         watch,
         devices,
         unread,
-    } = match open_all(
-        host,
-        site,
-        relay,
-        outlets,
-        wanted,
-        &signals,
-        &mut out.errors,
-    ) {
-        Ok(opened) => opened,
-        Err(status) => return status,
-    };
+    } = opened;
     let Signals { is_ending, reopens } = signals;
     let served = Served {
         site,

@@ -2,18 +2,19 @@
 ghost use Rattle.std.specs.Prelude.{◌≡◌, ◌≢◌, ◌≤◌, ℕ, List, map, string_bytes};
 ghost use Rattle.std.specs.Io.KnownBytes.{Keeps};
 ghost use Rattle.syc.specs.CommandReports.{IsPassed, ReadsNoMore, ReportIs};
-ghost use Rattle.syc.specs.Optioned.{FailsAs, KeepsAs};
-ghost use Rattle.syc.specs.Outcomes.{Shows};
-ghost use Rattle.syc.specs.Pass.{NoneFailed, counted};
-ghost use Rattle.syc.specs.Replays.{PiecesMayFail};
-ghost use Rattle.syc.specs.Words.{AreNoCommand, AreOver, ArePassAlone, OverSite as AnyOver};
+ghost use Rattle.sy_commands.specs.Optioned.{FailsAs, KeepsAs};
+ghost use Rattle.syc.specs.CommandReports.{Shows};
+ghost use Rattle.sy_passing.specs.Pass.{NoneFailed, counted};
+ghost use Rattle.sy_commands.specs.Replays.{PiecesMayFail};
+ghost use Rattle.syc.specs.Words.{AreNoCommand, ArePassAlone};
+ghost use Rattle.sy_commands.specs.Words.{AreOver, OverSite as AnyOver};
 ghost use Rattle.sy_report.specs.declared.command_line.options.Options.{Options as AnyOptions};
 
-use crate::commands::{report, request_of};
-use crate::pass::{READS, pass};
 use crate::usage::refusal;
 use crate::wrong_words::refuse;
 use std::alloc::Global;
+use sy_commands::commands::{report, request_of};
+use sy_passing::pass::{READS, pass};
 use sy_report::command_line::command::are_pass;
 use sy_report::command_line::options::given_words;
 use sy_report::outcome::stop::out_of_memory;

@@ -1,16 +1,14 @@
 //! The option by which warnings refuse a site that a check accepts.
 ghost use Rattle.std.specs.Prelude.{◌≡◌, ◌≢◌, ◌≤◌, map, string_bytes};
-ghost use Rattle.syc.specs.Optioned.{KeepsAs};
-ghost use Rattle.syc.specs.Words.{AreOver, OverSite as AnyOver};
+ghost use Rattle.sy_commands.specs.Optioned.{KeepsAs};
+ghost use Rattle.sy_commands.specs.Words.{AreOver, OverSite as AnyOver};
 ghost use Rattle.sy_report.specs.declared.command_line.options.Options.{Options as AnyOptions};
 
-use crate::commands::{Request, request_of};
-use crate::reading::read_for;
 use crate::run::run;
-use crate::running::explaining::options_for;
 use crate::taking::{is_first, take_option};
 use std::alloc::{AllocError, Global};
-use sy_findings::warnings::warning_lines;
+use sy_commands::commands::{Request, request_of};
+use sy_commands::reading::read_for;
 use sy_places::site_file::texts::SiteTexts;
 use sy_report::command_line::command::{Asked, SiteCommand};
 use sy_report::command_line::options::given_words;
@@ -20,7 +18,9 @@ use sy_report::outcome::stop::out_of_memory;
 use sy_report::reading::files::Files;
 use sy_report::writing::output::send;
 use sy_report::writing::outputs::Outputs;
+use sy_running::explaining::options_for;
 use sy_site::Site;
+use sy_warnings::warnings::warning_lines;
 use sy_wire::{Sink, Source};
 
 // Whether the words are of a command that may be strict.

@@ -1,25 +1,18 @@
 //! What clap says of the program and of each command: a help, the version, and what is wrong with other words.
 
+mod commands;
 mod misread;
 
 use clap::error::ErrorKind;
 use clap::{Arg, ArgAction, Command as Parser, Error};
+use commands::{CODE, COMMANDS};
 use misread::misread_reason;
 use std::alloc::{AllocError, Global};
 use sy_report::command_line::command::is_word;
 
+const FOLDER: &str = "Look for all files in this folder; before the command";
+
 const ABOUT: &str = "A relay for syslog messages in octet-counted frames";
-
-const SITE: &str =
-    "The site file: it names the relays with their configurations, the entries, what is protected, and which actions are spare";
-
-const EXPLAIN: &str =
-    "Explain what is found, or the fault: where it stands, why, and what to change";
-
-const ALL: &str =
-    "List every finding, with the classes that it affects, and every fault, in place of the first";
-
-const STRICT: &str = "Refuse a site that has warnings too, and print them";
 
 const CLASS: &str = "Draw what the messages of this class may reach, as auth.crit";
 
@@ -37,173 +30,7 @@ const METRICS: &str =
 const METRICS_EVERY: &str =
     "Write that file again after so many seconds, in place of 10: 1 to 86400; only with --metrics";
 
-const JSON: &str = "Print one JSON document in place of the text";
-
 const ANY_FILE: &str = "Read FIFOs and devices too, not regular files alone";
-
-const EVENTS: &str = "The events, one a line; - is standard input";
-
-const CERT: &str = "The certificate, as certify prints it; - is standard input";
-
-const PASS_BEHIND: &str = "Exit status:
-  0  all messages were written
-  2  the input is faulty, or the command line is
-  3  out of memory
-  4  a read or a write failed
-
-Example:
-  syc pass <frames >lines";
-
-const CHECK_BEHIND: &str = "Exit status, with any of these options:
-  0  accepted: no message of a protected class is lost, but at or behind a spare action
-  1  refused: something is found, or with --strict something is warned of
-  2  a file is faulty, or the command line is
-  3  out of memory
-  4  a read or a write failed
-
-Example:
-  syc check --explain site";
-
-const CERTIFY_BEHIND: &str = "Exit status, with any of these options:
-  0  accepted: the certificate is printed
-  1  refused: something is found, as by check
-  2  a file is faulty, or the command line is
-  3  out of memory
-  4  a read or a write failed
-
-Example:
-  syc certify site >cert";
-
-const VERIFY_BEHIND: &str = "Exit status, with any of these options:
-  0  accepted: the certificate shows that no message of a protected class is lost, but at or behind a spare action
-  1  refused: a row of the certificate is wrong or lacking
-  2  a file is faulty, or the command line is
-  3  out of memory
-  4  a read or a write failed
-
-Example:
-  syc verify site cert";
-
-const REPLAY_BEHIND: &str = "Exit status, with any of these options:
-  0  all events were made
-  1  an event is no step of the site, or finds a total full
-  2  a file is faulty, or the command line is
-  3  out of memory
-  4  a read or a write failed
-
-Example:
-  syc replay site events";
-
-const RUN_BEHIND: &str = "Exit status:
-  0  the relay ran until standard input ended
-  1  the site is refused, or with --strict it has warnings
-  2  a file is faulty, the site has no such relay, or the command line is faulty
-  3  out of memory
-  4  a read or a write failed, or a port or a file can't be opened
-
-Lines on standard input:
-  status  prints the totals as they stand on standard error
-  reopen  opens the archives anew
-
-Example:
-  syc run site hub";
-
-const UNREAD_BEHIND: &str = "Exit status:
-  0  all of the file was read; with --repair, all are messages now
-  1  something of it is no record; with --repair, or was left
-  2  the file isn't one of frames, or the command line is faulty
-  3  out of memory
-  4  a read or a write failed
-
-Example:
-  syc unread --repair unread | nc -N localhost 6514";
-
-const FULL: &str =
-    "Draw each relay in full, with the site file's name, the date and the SHA-256 of its files below; else more than 12 relays are drawn as an overview";
-
-const GRAPH_BEHIND: &str = "Exit status:
-  0  the graph was printed
-  2  a file is faulty, or the command line is
-  3  out of memory
-  4  a read or a write failed
-
-Example:
-  syc graph site | dot -Tsvg >site.svg";
-
-// The commands: the word of each, what it does, its names and options with what they mean, and the end of its help.
-static COMMANDS: [(&str, &str, &[(&str, &str)], &[(&str, &str)], &str); 8] = [
-    (
-        "pass",
-        "Read messages in octet-counted frames from standard input and write one line a message",
-        &[],
-        &[],
-        PASS_BEHIND,
-    ),
-    (
-        "check",
-        "Say whether a site keeps the messages of its protected classes",
-        &[("SITE", SITE)],
-        &[
-            ("explain", EXPLAIN),
-            ("all", ALL),
-            ("json", JSON),
-            ("strict", STRICT),
-        ],
-        CHECK_BEHIND,
-    ),
-    (
-        "certify",
-        "Print a certificate of a site, for others to verify",
-        &[("SITE", SITE)],
-        &[("explain", EXPLAIN), ("json", JSON)],
-        CERTIFY_BEHIND,
-    ),
-    (
-        "verify",
-        "Say whether a certificate shows that a site keeps the messages of its protected classes",
-        &[("SITE", SITE), ("CERT", CERT)],
-        &[("explain", EXPLAIN), ("json", JSON)],
-        VERIFY_BEHIND,
-    ),
-    (
-        "replay",
-        "Make the events of a file at the site of a site file, and print each loss",
-        &[("SITE", SITE), ("EVENTS", EVENTS)],
-        &[("explain", EXPLAIN), ("json", JSON)],
-        REPLAY_BEHIND,
-    ),
-    (
-        "run",
-        "Check a site, and run one of its relays until standard input ends",
-        &[
-            ("SITE", SITE),
-            ("RELAY", "The name of the relay that is run"),
-        ],
-        &[
-            ("unchecked", "Run it without a check"),
-            ("explain", EXPLAIN),
-            ("strict", STRICT),
-        ],
-        RUN_BEHIND,
-    ),
-    (
-        "unread",
-        "Say what a file of run --unread has, and what to change at the senders",
-        &[("FILE", "The file of frames that carry no message")],
-        &[(
-            "repair",
-            "Write those of which a repair makes messages to standard output, as frames",
-        )],
-        UNREAD_BEHIND,
-    ),
-    (
-        "graph",
-        "Print a site as a graph, for Graphviz",
-        &[("SITE", SITE)],
-        &[("full", FULL)],
-        GRAPH_BEHIND,
-    ),
-];
 
 // A parser with the name of a file more. Here and below a parser that couldn't be made is passed on, since a `?` where
 // parsers are owned is dear to prove.
@@ -214,6 +41,10 @@ fn with_name<'a>(
     help: &'a str,
 ) -> Result<Parser<'a>, AllocError> {
     match parser {
+        Ok(parser) if is_word(name, CODE) => {
+            let code = Arg::new(alloc, name).help(help).required(false);
+            parser.arg(code.num_args(0..=2))
+        }
         Ok(parser) => parser.arg(Arg::new(alloc, name).help(help).required(true)),
         Err(why) => Err(why),
     }
@@ -315,7 +146,7 @@ fn parser_of<'a>(
     let parser = with_names(alloc, parser, names);
     let parser = with_options(alloc, parser, options);
     let parser = with_values(alloc, parser, word);
-    if is_word(word, "pass") || is_word(word, "unread") {
+    if is_word(word, "pass") || is_word(word, "unread") || is_word(word, "explain") {
         return parser;
     }
     with_option(alloc, parser, "any-file", ANY_FILE)
@@ -345,7 +176,8 @@ fn bare_parser<'a>(alloc: Global) -> Parser<'a> {
 
 // What clap knows of the program.
 fn whole_parser<'a>(alloc: Global) -> Result<Parser<'a>, AllocError> {
-    let mut parser = Ok(bare_parser(alloc));
+    let folder = Arg::new(alloc, "folder").short('C').value_name("FOLDER");
+    let mut parser = bare_parser(alloc).arg(folder.help(FOLDER).action(ArgAction::Set));
     for (word, about, names, options, behind) in &COMMANDS {
         let command = parser_of(alloc, word, about, behind, names, options);
         parser = with_command(parser, command);

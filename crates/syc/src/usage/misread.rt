@@ -1,7 +1,7 @@
 //! What is wrong with words that clap reads as a command, and that are none.
 
-use crate::running::words::{period, seconds};
 use sy_report::command_line::command::is_word;
+use sy_running::words::{period, seconds};
 
 // What is wrong with a word behind an option that takes a time, if anything is.
 fn wrong_time(option: &str, word: &str) -> Option<&'static str> {

@@ -1,11 +1,11 @@
 use Rattle.std.proofs.Common.{◌∙◌, ap, codes, map, subst, sym}
 use Rattle.std.specs.Prelude.{string_bytes}
 use Rattle.sy_site.specs.texts.Describes.{file_named}
-use Rattle.syc.specs.Checks.{AskedIs}
+use Rattle.sy_commands.specs.Checks.{AskedIs}
 use Rattle.sy_report.specs.Memory.{given}
-use Rattle.syc.specs.Replays.{ReplayIs}
-use Rattle.syc.specs.Verdicts.{VerifyIs}
-use Rattle.syc.specs.Words.{AreAskingOf, AreReplayOf, AreVerifyOf}
+use Rattle.sy_commands.specs.Replays.{ReplayIs}
+use Rattle.sy_commands.specs.Verdicts.{VerifyIs}
+use Rattle.sy_commands.specs.Words.{AreAskingOf, AreReplayOf, AreVerifyOf}
 use Rattle.syc.specs.declared.examples.TheConstants.{CERTIFICATE, EVENTS, SITE}
 use Rattle.syc.proofs.ExampleEndings.{asking_writes, replaying_writes, verifying_writes}
 use Rattle.syc.proofs.examples.run_words.Goals as goal

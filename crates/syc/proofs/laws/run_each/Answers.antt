@@ -1,7 +1,7 @@
 use Rattle.std.proofs.Common.{refl}
 use Rattle.sy_report.specs.declared.command_line.command.Asked.TheVariants as asked
-use Rattle.syc.specs.Words.{OverSite}
-use Rattle.syc.specs.Requests.{no_options}
+use Rattle.sy_commands.specs.Words.{OverSite}
+use Rattle.sy_commands.specs.Requests.{no_options}
 use Rattle.syc.proofs.ByCommand.{asked_alone, says_as}
 use Rattle.syc.proofs.Optioned.{asking_over, none_over, optioned_over, replay_over, verify_over}
 use Rattle.syc.proofs.laws.run_each.Goals as goal

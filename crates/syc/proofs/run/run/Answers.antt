@@ -1,9 +1,9 @@
 use Rattle.std.proofs.Common.{map, refl}
 use Rattle.std.specs.Prelude.{string_bytes}
 use Rattle.syc.specs.CommandReports.{ReportIs}
-use Rattle.syc.specs.Optioned.{FailsAs}
-use Rattle.syc.specs.Replays.{PiecesMayFail}
-use Rattle.syc.proofs.NoMemory.{memory_ends, memory_says}
+use Rattle.sy_commands.specs.Optioned.{FailsAs}
+use Rattle.sy_commands.specs.Replays.{PiecesMayFail}
+use Rattle.sy_commands.proofs.NoMemory.{memory_ends, memory_says}
 use Rattle.syc.proofs.Optioned.{for_request}
 use Rattle.syc.proofs.Statuses.{memory_passed}
 use Rattle.syc.proofs.run.run.Goals as goal

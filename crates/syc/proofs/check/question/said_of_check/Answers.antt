@@ -1,5 +1,0 @@
-use Rattle.syc.proofs.Said.{explained_said}
-use Rattle.syc.proofs.check.question.said_of_check.Goals as goal
-
-pub returns-in-true-false-clause-verdict : goal.returns-in-true-false-clause-verdict
-returns-in-true-false-clause-verdict c = explained_said c.args.site.now c.say_explained.result c.say_explained.ensures.ok

@@ -1,6 +1,0 @@
-use Rattle.std.proofs.Common.{◌∙◌}
-use Rattle.syc.proofs.Ready.{opens}
-use Rattle.syc.proofs.pass.new_board.Goals as goal
-
-pub returns : goal.returns
-returns c = opens _ _ (c.in-Ok-new.ensures.ok ∙ c.in-Ok.ensures.value) c.new-2.ensures

@@ -1,9 +1,0 @@
-use Rattle.syc.proofs.Replayed.{may_end_so}
-use Rattle.syc.specs.Reports.{HasReportedBy}
-use Rattle.syc.specs.Words.{is_any}
-use Rattle.syc.proofs.replay.replay.Goals as goal
-
-pub returns-else-options-clause-ends : goal.returns-else-options-clause-ends
-returns-else-options-clause-ends g c = λ text events known read.
-    may_end_so (g.F.Files.bytes_of c.args.files.now) text events c.args.out.now.output c.replay_lines.new.out.output c.replay_lines.result
-    (HasReportedBy (is_any c.args.options) c.args.out.now c.replay_lines.new.out) (c.replay_lines.ensures.says text events known read)

@@ -1,8 +1,0 @@
-use Rattle.std.proofs.Common.{rules}
-use Rattle.syc.specs.Words.{AreRunArgs, IsSeconds}
-use Rattle.syc.proofs.running.words.with_drain.Goals as goal
-
-pub returns : goal.returns
-returns c = λ words are.
-    let is : IsSeconds c.args.word.now c.in_ok-seconds.seconds = search rules in
-    AreRunArgs.drain c.args.word.now c.in_ok-seconds.seconds is (search rules) are

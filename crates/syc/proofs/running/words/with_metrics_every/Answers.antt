@@ -1,8 +1,0 @@
-use Rattle.std.proofs.Common.{rules}
-use Rattle.syc.specs.Words.{AreRunArgs, IsPeriod}
-use Rattle.syc.proofs.running.words.with_metrics_every.Goals as goal
-
-pub returns : goal.returns
-returns c = λ words are.
-    let is : IsPeriod c.args.word.now c.in_ok-seconds.seconds = search rules in
-    AreRunArgs.metrics_every c.args.word.now c.in_ok-seconds.seconds is (search rules) are

@@ -1,9 +1,0 @@
-use Rattle.std.proofs.Common.{rules, ◌∙◌, sym}
-use Rattle.syc.specs.Words.{AreRunArgs}
-use Rattle.syc.proofs.RunArgs.{none_seen}
-use Rattle.syc.proofs.running.words.with_unread.Goals as goal
-
-pub returns : goal.returns
-returns c = λ words are.
-    AreRunArgs.unread c.args.file.now (search rules)
-    (none_seen (λ file. file.now) c.args.args.unread (sym c.is_some.ensures ∙ c.if-is_some.false)) are

@@ -1,9 +1,0 @@
--- What only private functions cite.
-pub mod Commands
-pub mod Halts
-pub mod Optioned
-pub mod Stops
-pub mod Surveys
-pub mod Unverified
-pub mod Ways
-pub mod Pass
