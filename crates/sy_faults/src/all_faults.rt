@@ -1,6 +1,6 @@
 //! What `--all` says of a fault, behind its first line: the other faults of the site file and of the files of its relays.
 
-use crate::all_of_file::{FileSpot, all_of_file};
+use crate::all_of_file::{Bounds, FileSpot, all_of_file};
 use crate::all_of_site::{JudgedFile, SiteHunt, find_lines, find_references, leave_out, word_of};
 use crate::faults_with_notes::{ReportedFault, push_reported, without};
 use std::alloc::{AllocError, Global};
@@ -47,12 +47,12 @@ fn find_unread(
 fn find_in_text(
     alloc: Global,
     reported: &mut Vec<ReportedFault>,
-    left: &mut usize,
+    bounds: &mut Bounds,
     spot: FileSpot<'_>,
     read: &RelayText,
 ) -> Result<Option<Vec<u8>>, AllocError> {
     let text = Vec::from_slice(alloc, read.text.as_slice())?;
-    let (found, mended) = all_of_file(alloc, spot, text, left)?;
+    let (found, mended) = all_of_file(alloc, spot, text, bounds)?;
     for fault in found {
         reported.push(fault)?;
     }
@@ -77,7 +77,7 @@ fn find_in_file(
         relay,
     };
     match read {
-        Ok(read) => find_in_text(alloc, &mut hunt.found, &mut hunt.left, spot, read),
+        Ok(read) => find_in_text(alloc, &mut hunt.found, &mut hunt.bounds, spot, read),
         Err(why) => {
             let unread = find_unread(alloc, hunt.name, spot, why)?;
             hunt.found.push(unread)?;
@@ -177,27 +177,64 @@ fn note_to_know(alloc: Global, texts: &SiteTexts<'_>, halt: &Halt) -> Result<Vec
     }
 }
 
+/// Faults that were found, and whether the search for them was ended by a bound.
+#[derive(Drop)]
+pub struct OtherFaults {
+    pub faults: Vec<ReportedFault>,
+    /// whether a file has so many faults that no more of it are reported
+    pub is_full: bool,
+    /// whether a file was read so often, or so much was, that it is read no more
+    pub is_spent: bool,
+}
+
+// No faults, all having been looked at.
+fn no_others(alloc: Global) -> OtherFaults {
+    OtherFaults {
+        faults: Vec::new(alloc),
+        is_full: false,
+        is_spent: false,
+    }
+}
+
 /// The faults beside the one by which a command stopped, in the order of files and places: the site file's, then those of
 /// each relay's file. Each of them is one that the reader has at that place.
 pub fn other_faults(
     alloc: Global,
     texts: &SiteTexts<'_>,
     halt: &Halt,
-) -> Result<Vec<ReportedFault>, AllocError> {
+) -> Result<OtherFaults, AllocError> {
     if !has_others(halt) {
-        return Ok(Vec::new(alloc));
+        return Ok(no_others(alloc));
     }
     let Some(text) = texts.text() else {
-        return Ok(Vec::new(alloc));
+        return Ok(no_others(alloc));
     };
     let mut hunt = SiteHunt::new(alloc, texts.name, Vec::from_slice(alloc, text)?)?;
     find_all(alloc, texts, &mut hunt)?;
-    let SiteHunt { found, .. } = hunt;
+    let SiteHunt { found, bounds, .. } = hunt;
     let note = note_to_know(alloc, texts, halt)?;
-    without(alloc, found, halt, note.as_slice())
+    match without(alloc, found, halt, note.as_slice()) {
+        Ok(faults) => Ok(OtherFaults {
+            faults,
+            is_full: bounds.is_full,
+            is_spent: bounds.is_spent,
+        }),
+        Err(why) => Err(why),
+    }
 }
 
-/// The lines behind the first one on standard error: of that fault, where it is to be explained, and of the others.
+// Says by which bounds a search was ended.
+fn push_bounds(words: &mut Words, others: &OtherFaults) {
+    if others.is_full {
+        words.say("syc: there may be more faults: at most 64 of a file are reported\n");
+    }
+    if others.is_spent {
+        words.say("syc: there may be more faults: files were read again as often as they may be\n");
+    }
+}
+
+/// The lines behind the first one on standard error: of that fault, where it is to be explained, and of the others; and by
+/// which bounds their search was ended.
 pub fn all_fault_words(
     alloc: Global,
     texts: &SiteTexts<'_>,
@@ -210,8 +247,9 @@ pub fn all_fault_words(
         words.append(&[Part::Text(first.as_slice())]);
     }
     let others = other_faults(alloc, texts, halt)?;
-    for fault in others.as_slice() {
+    for fault in others.faults.as_slice() {
         push_reported(alloc, &mut words, fault, is_explained)?;
     }
+    push_bounds(&mut words, &others);
     words.finish()
 }

@@ -27,6 +27,17 @@ const MOST_READS: usize = 128;
 /// The most bytes of all relays' files that are read again, after the first reading of each.
 pub const MOST_REREAD: usize = 8_388_608;
 
+/// What bounds the search for all faults of a site, and which of the bounds ended it.
+#[derive(Clone, Copy)]
+pub struct Bounds {
+    /// the bytes of relays' files that may be read again
+    pub left: usize,
+    /// whether a file has so many faults that no more of it are reported
+    pub is_full: bool,
+    /// whether a file was read so often, or so much was, that it is read no more
+    pub is_spent: bool,
+}
+
 /// A file: its number, counted from 1, its name, and the site file's first line that names it, with the relay's name there.
 #[derive(Clone, Copy)]
 pub struct FileSpot<'a> {
@@ -281,10 +292,10 @@ fn judge_once(alloc: Global, hunt: &mut Hunt<'_>) -> Result<Step, AllocError> {
 }
 
 // Takes bytes off those that may still be read again, and answers whether there were so many.
-fn may_reread(left: &mut usize, size: usize) -> bool {
-    match left.checked_sub(size) {
+fn may_reread(bounds: &mut Bounds, size: usize) -> bool {
+    match bounds.left.checked_sub(size) {
         Some(rest) => {
-            *left = rest;
+            bounds.left = rest;
             true
         }
         None => false,
@@ -292,18 +303,22 @@ fn may_reread(left: &mut usize, size: usize) -> bool {
 }
 
 // Goes from fault to fault, and answers whether the file is a plan then.
-fn go(alloc: Global, hunt: &mut Hunt<'_>, left: &mut usize) -> Result<bool, AllocError> {
+fn go(alloc: Global, hunt: &mut Hunt<'_>, bounds: &mut Bounds) -> Result<bool, AllocError> {
     for _ in 0..MOST_READS {
         match judge_once(alloc, hunt)? {
             Step::Clean => return Ok(true),
             Step::End => return Ok(false),
             Step::GoOn => {}
         }
-        let is_full = hunt.found.len() >= MOST_FAULTS;
-        if is_full || !may_reread(left, hunt.mended.draft.text().len()) {
+        if hunt.found.len() >= MOST_FAULTS {
+            bounds.is_full = true;
             return Ok(false);
         }
+        if !may_reread(bounds, hunt.mended.draft.text().len()) {
+            break;
+        }
     }
+    bounds.is_spent = true;
     Ok(false)
 }
 
@@ -313,7 +328,7 @@ pub fn all_of_file(
     alloc: Global,
     spot: FileSpot<'_>,
     text: Vec<u8>,
-    left: &mut usize,
+    bounds: &mut Bounds,
 ) -> Result<(Vec<ReportedFault>, Option<Vec<u8>>), AllocError> {
     let mut hunt = Hunt {
         spot,
@@ -327,7 +342,7 @@ pub fn all_of_file(
         found: Vec::new(alloc),
         last: None,
     };
-    let is_plan = go(alloc, &mut hunt, left)?;
+    let is_plan = go(alloc, &mut hunt, bounds)?;
     let Hunt { mended, found, .. } = hunt;
     if !is_plan || !mended.is_firm {
         return Ok((found, None));

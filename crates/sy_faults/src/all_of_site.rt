@@ -1,6 +1,6 @@
 //! All faults of the lines of a site file that can be found without guessing.
 
-use crate::all_of_file::MOST_REREAD;
+use crate::all_of_file::{Bounds, MOST_REREAD};
 use crate::faults_with_notes::ReportedFault;
 use crate::mending::mended_text::Draft;
 use std::alloc::{AllocError, Global};
@@ -29,8 +29,7 @@ pub struct SiteHunt<'a> {
     pub name: &'a str,
     pub draft: Draft,
     pub found: Vec<ReportedFault>,
-    /// the bytes of relays' files that may be read again
-    pub left: usize,
+    pub bounds: Bounds,
     // whether a fault was told that leaves open which policy the site has
     is_policy_open: bool,
 }
@@ -42,7 +41,11 @@ impl<'a> SiteHunt<'a> {
             name,
             draft: Draft::new(alloc, text)?,
             found: Vec::new(alloc),
-            left: MOST_REREAD,
+            bounds: Bounds {
+                left: MOST_REREAD,
+                is_full: false,
+                is_spent: false,
+            },
             is_policy_open: false,
         })
     }
@@ -246,9 +249,11 @@ pub fn find_lines(alloc: Global, hunt: &mut SiteHunt<'_>) -> Result<bool, AllocE
             return Ok(hunt.draft.text().len() <= MOST_BYTES);
         }
         if hunt.found.len() >= MOST_FAULTS {
+            hunt.bounds.is_full = true;
             return Ok(false);
         }
     }
+    hunt.bounds.is_spent = true;
     Ok(false)
 }
 
@@ -384,5 +389,6 @@ pub fn find_references(
             return Ok(());
         }
     }
+    hunt.bounds.is_spent = true;
     Ok(())
 }

@@ -1,1 +1,2 @@
 mod Posts
+mod Lists

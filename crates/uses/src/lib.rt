@@ -7,6 +7,8 @@ pub mod board;
 pub mod cert;
 pub mod chain;
 pub mod checker;
+pub mod fit;
+pub mod flows;
 pub mod marks;
 pub mod rules;
 pub mod runtime;

@@ -216,6 +216,32 @@ fn push_comment(alloc: Global, note: &mut Note, at: FileLine<'_>) -> bool {
     false
 }
 
+// Says of a site file that it is too long.
+fn push_too_long(alloc: Global, note: &mut Note, at: FileLine<'_>) {
+    note.stands_at(alloc, at.file.as_bytes(), None);
+    note.why.append(&[
+        Part::Text(at.file.as_bytes()),
+        Part::Text(b" has "),
+        Part::Number(at.text.len() as u64),
+        Part::Text(b" bytes, at most 1048576 are read"),
+    ]);
+}
+
+// Says what is wrong with a line by its first word.
+fn push_by_first_word(alloc: Global, note: &mut Note, at: FileLine<'_>) -> Result<(), AllocError> {
+    match word_in(at.line, 0) {
+        Some((_, b"entry")) => return push_entry_line(alloc, note, at),
+        Some((_, b"protect")) => return push_protect_line(alloc, note, at),
+        Some((_, b"spare")) => return push_spare_line(alloc, note, at),
+        Some((_, b"relay")) => push_relay_line(alloc, note, at),
+        Some((_, b"policy")) => push_policy_line(alloc, note, at),
+        Some((_, b"outside")) => push_outside_line(alloc, note, at),
+        Some((_, word)) => push_first_word(alloc, note, at, word),
+        None => {}
+    }
+    Ok(())
+}
+
 /// Says of a line that is none of a site file which of its causes it is.
 pub fn push_faulty_line(
     alloc: Global,
@@ -223,13 +249,7 @@ pub fn push_faulty_line(
     at: FileLine<'_>,
 ) -> Result<(), AllocError> {
     if at.text.len() > MOST {
-        note.stands_at(alloc, at.file.as_bytes(), None);
-        note.why.append(&[
-            Part::Text(at.file.as_bytes()),
-            Part::Text(b" has "),
-            Part::Number(at.text.len() as u64),
-            Part::Text(b" bytes, at most 1048576 are read"),
-        ]);
+        push_too_long(alloc, note, at);
         return Ok(());
     }
     if at.number == 1 {
@@ -245,28 +265,7 @@ pub fn push_faulty_line(
     if push_comment(alloc, note, at) {
         return Ok(());
     }
-    match word_in(at.line, 0) {
-        Some((_, b"relay")) => {
-            push_relay_line(alloc, note, at);
-            Ok(())
-        }
-        Some((_, b"entry")) => push_entry_line(alloc, note, at),
-        Some((_, b"protect")) => push_protect_line(alloc, note, at),
-        Some((_, b"policy")) => {
-            push_policy_line(alloc, note, at);
-            Ok(())
-        }
-        Some((_, b"spare")) => push_spare_line(alloc, note, at),
-        Some((_, b"outside")) => {
-            push_outside_line(alloc, note, at);
-            Ok(())
-        }
-        Some((_, word)) => {
-            push_first_word(alloc, note, at, word);
-            Ok(())
-        }
-        None => Ok(()),
-    }
+    push_by_first_word(alloc, note, at)
 }
 
 // Whether two lines have the same word of a number.
