@@ -1,17 +1,109 @@
 """The programs that bin/build makes, each with what it was made from, and how the proved one is made."""
 
+import contextlib
+import fcntl
 import hashlib
 import os
 import re
 import shutil
+import signal
+import subprocess
+import tempfile
 import time
 from pathlib import Path
 
-from building.common import TESTS, TOP, USES, Failed, alone, below, crates_of, kit_name, rooms, run, say, telling, text_of
-
+TOP = os.path.abspath(f"{os.path.realpath(__file__)}/../../..")
+# The crates of the libraries' tests, which are no crates of the repository: their folder, and what each stands on.
+TESTS, USES = "tests/libraries", "tests/libraries/uses.txt"
 MEASURED = "some 80 minutes on two processors"  # when it was last seen, with nothing proved before
 # The scripts that make a quick program, of which it is made too.
-SCRIPTS = ["bin/build", *(f"bin/building/{it}.py" for it in ("common", "programs", "quick"))]
+SCRIPTS = ["bin/build", *(f"bin/building/{it}.py" for it in ("programs", "quick"))]
+RECORD = 512  # the bytes at the end of a program that say how it was built, line feeds filling them up
+progress = [1]  # the stream for lines of progress
+
+
+class Failed(Exception):
+    """Why something can't be built."""
+
+
+def say(text):
+    # (what is told may get lost, but no build fails by it)
+    with contextlib.suppress(OSError):
+        os.write(progress[0], f"bin/build: {text}\n".encode())
+
+
+def text_of(path):
+    """The text of a file, or nothing where there is none."""
+    with contextlib.suppress(OSError), open(path, encoding="utf-8", errors="replace") as it:
+        return it.read()
+    return ""
+
+
+def needed_kit():
+    """The toolchain's folder, that of the command rt."""
+    rt = shutil.which("rt")
+    if not rt:
+        raise Failed("the command rt of the toolchain is not on PATH")
+    return os.path.dirname(os.path.dirname(os.path.realpath(rt)))
+
+
+def kit_name():
+    """The toolchain's name, which changes with it."""
+    return text_of(f"{needed_kit()}/KIT-ID").strip() or "unknown"
+
+
+def crates_of(root=TOP):
+    """What each crate stands on, crates of the repository and libraries of the toolchain; those of tests, too."""
+    lines = text_of(f"{root}/crates.txt").splitlines() + text_of(f"{root}/{USES}").splitlines()
+    rows = [it.partition("#")[0].partition(":") for it in lines]
+    return {name.split()[0]: uses.replace(",", " ").split() for name, _, uses in rows if name.strip()}
+
+
+def below(crates, name):
+    """The repository's crates that one stands on, each after those that it stands on itself, and that one last."""
+    found = [other for it in crates.get(name, ()) if it in crates for other in below(crates, it)]
+    return [*dict.fromkeys(found), name]
+
+
+@contextlib.contextmanager
+def alone(path):
+    """Waits until no other call makes the same."""
+    os.makedirs(os.path.dirname(path), exist_ok=True)
+    with open(path, "w", encoding="utf-8") as lock:
+        try:
+            fcntl.flock(lock, fcntl.LOCK_EX | fcntl.LOCK_NB)
+        except BlockingIOError:
+            say("another bin/build makes the same: waiting for it")
+            fcntl.flock(lock, fcntl.LOCK_EX)
+        yield
+
+
+@contextlib.contextmanager
+def telling(how_far):
+    """Says every ten seconds how far a build is, and how many seconds it has taken."""
+    began = time.monotonic()
+    signal.signal(signal.SIGALRM, lambda *_: say(f"{how_far()}; {time.monotonic() - began:.0f} s so far"))
+    signal.setitimer(signal.ITIMER_REAL, 10, 10)
+    try:
+        yield
+    finally:
+        signal.setitimer(signal.ITIMER_REAL, 0)
+
+
+def run(words, folder, room, hear=lambda line: None):
+    """Runs a command that reads nothing: its status, and what it said, both streams together, each line once it comes. What
+    ends this program on the way, as a signal, ends all that the command has begun."""
+    how = {"stdin": subprocess.DEVNULL, "stdout": subprocess.PIPE, "stderr": subprocess.STDOUT, "errors": "replace"}
+    said = []
+    with subprocess.Popen(words, cwd=folder, env=os.environ | {"TMPDIR": room}, start_new_session=True, **how) as it:
+        try:
+            for line in it.stdout:
+                said.append(line)
+                hear(line)
+        except BaseException:
+            os.killpg(it.pid, signal.SIGKILL)
+            raise
+    return it.returncode, "".join(said)
 
 
 def sum_of(path):
@@ -66,10 +158,23 @@ class Program:
                 os.makedirs(os.path.dirname(f"{to}/{its_copy}"), exist_ok=True)
                 shutil.copyfile(f"{TOP}/{path}", f"{to}/{its_copy}")
 
+    def commit(self, sources):
+        """The commit that these are the sources of. A folder without .git is no repository, even within another one."""
+        asked, how = (["rev-parse", "HEAD"], ["status", "--porcelain", "--", *self.others, "bin", "crates"]), {"text": True}
+        with contextlib.suppress(OSError, subprocess.CalledProcessError):
+            if os.path.exists(f"{TOP}/.git"):
+                name, changes = (subprocess.check_output(["git", "-C", TOP, *it], **how).strip() for it in asked)
+                return name + (" with changes" if changes or sources != self.sum_now() else "")
+        return "unknown"
+
     def put(self, made, sources, name):
-        """Takes what was made as this program, and records what it is of."""
+        """Takes what was made as this program, with a record of its build behind its end, and records what it is of."""
         os.makedirs(os.path.dirname(self.path), exist_ok=True)
-        shutil.copyfile(made, f"{self.path}.new")
+        text, kind = Path(made).read_bytes(), "proved" if "proofs" in self.parts else "unproved"
+        if text.startswith(b"\x7fELF"):
+            lines = f"syc-build 1\ncommit {self.commit(sources)}\nsources {sources}\nkit {name}\n{kind}"
+            text = text[: -RECORD if text[-RECORD:].startswith(b"syc-build 1\n") else None] + lines.encode().ljust(RECORD, b"\n")
+        Path(f"{self.path}.new").write_bytes(text)
         os.chmod(f"{self.path}.new", 0o755)
         os.replace(f"{self.path}.new", self.path)
         # (until that is written the record is of another program, which isn't current)
@@ -118,7 +223,7 @@ def build(program, make):
             say(f"{program.name} is current")
             return program
         began = time.monotonic()
-        with rooms() as room:
+        with tempfile.TemporaryDirectory(prefix="syc-build-") as room:
             program.copy_sources(f"{room}/source")
             wanted = program.sum_of_sources(name, f"{room}/source")
             program.put(make(room), wanted, name)
