@@ -110,7 +110,7 @@ _syc_offer_options() {
     run | syc-run)
         _syc_offer --unchecked --explain --strict --left --unread --drain --metrics --metrics-every --any-file
         ;;
-    '') _syc_offer -V --version ;;
+    '') _syc_offer -C -V --version ;;
     help) return ;;
     esac
     _syc_offer -h --help
@@ -137,9 +137,10 @@ _syc() {
         _syc_offer_options "$command"
     else
         case $command-$places in
-        -0 | help-0) _syc_offer pass check certify verify replay run unread graph help ;;
+        -0 | help-0) _syc_offer pass check certify verify replay run unread graph explain help ;;
+        explain-0) _syc_offer kind ;;
         run-1 | syc-run-1) _syc_offer_relays ;;
-        *-0 | verify-1 | replay-1) if [[ $command != pass ]]; then _syc_offer_files; fi ;;
+        *-0 | verify-1 | replay-1) if [[ $command != pass && $command != explain ]]; then _syc_offer_files; fi ;;
         esac
     fi
 }

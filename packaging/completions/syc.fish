@@ -68,6 +68,7 @@ end
 
 complete -c syc -n __syc_wants_command -f
 complete -c syc -n __syc_wants_command -s h -l help -d 'Print help'
+complete -c syc -n __syc_wants_command -s C -rF -d 'Look for all files in this folder'
 complete -c syc -n __syc_wants_command -s V -l version -d 'Print version'
 for condition in __syc_wants_command '__syc_at 0 help'
     complete -c syc -n $condition -f -a pass -d 'Write one line a message of frames'
@@ -78,11 +79,12 @@ for condition in __syc_wants_command '__syc_at 0 help'
     complete -c syc -n $condition -f -a run -d 'Check a site, and run one of its relays'
     complete -c syc -n $condition -f -a unread -d 'Say what a file of run --unread has'
     complete -c syc -n $condition -f -a graph -d 'Print a site as a graph, for Graphviz'
+    complete -c syc -n $condition -f -a explain -d 'Say what a number or a name means'
     complete -c syc -n $condition -f -a help -d 'Print help of a command'
 end
 
 for command in syc syc-run
-    complete -c $command -n '__syc_is pass check certify verify replay run unread graph syc-run' -s h -l help -d 'Print help'
+    complete -c $command -n '__syc_is pass check certify verify replay run unread graph explain syc-run' -s h -l help -d 'Print help'
     complete -c $command -n '__syc_is check certify verify replay run syc-run' -l explain -d 'Explain what is found, or the fault'
     complete -c $command -n '__syc_is check certify verify replay graph run syc-run' -l any-file -d 'Read FIFOs and devices too'
     complete -c $command -n '__syc_is check run syc-run' -l strict -d 'Refuse a site that has warnings too'
@@ -101,6 +103,7 @@ complete -c syc -n '__syc_is check certify verify replay' -l json -d 'Print one 
 complete -c syc -n '__syc_is graph' -l full -d 'Draw each relay in full'
 complete -c syc -n '__syc_is graph' -l class -x -a '(__syc_classes)' -d 'Draw what this class may reach'
 complete -c syc -n '__syc_is unread' -l repair -d 'Write what a repair makes messages'
-complete -c syc -n '__syc_past 0 pass' -f
+complete -c syc -n '__syc_at 0 explain' -f -a kind -d 'A kind of finding'
+complete -c syc -n '__syc_past 0 pass explain' -f
 complete -c syc -n '__syc_past 1 check certify graph unread help' -f
 complete -c syc -n '__syc_past 2 verify replay' -f
