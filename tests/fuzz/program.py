@@ -5,7 +5,7 @@ import re
 import signal
 from typing import NamedTuple
 
-LIMIT = 30  # seconds that a run may take, whatever goes on beside it
+LIMIT = 120  # seconds that a run may take, whatever goes on beside it
 SECONDS = 1.0  # of processor time, for a text of less than 64 KiB
 MEMORY = 64 * 1024  # KiB that are resident
 FAULT = rb"\d+ [A-Z][A-Za-z0-9]*"

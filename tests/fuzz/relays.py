@@ -5,9 +5,12 @@ import os
 import re
 import signal
 import socket
+import sys
 import time
 
+sys.path.append(f"{os.path.dirname(os.path.dirname(os.path.realpath(__file__)))}/relay")
 from mutate import cuttings
+from ports import free_ports, own_ports
 from program import LIMIT, MEMORY, hold
 
 # What a relay says: lines of text, whatever was sent.
@@ -30,8 +33,8 @@ class Relay:
         hold(False, f"the relay doesn't start: {self.told('said')!r}")
 
     def start(self, runner):
-        with socket.create_server(("127.0.0.1", 0)) as it:
-            self.port = it.getsockname()[1]
+        block, self.holds = own_ports()
+        self.port = next(free_ports(block))
         runner.put({"site": b"relay hub hub.conf\nentry hub %d\nprotect *.* hub audit\n" % self.port, "hub.conf": CONFIGURATION % self.port})
         reads, self.stdin = os.pipe2(os.O_CLOEXEC)
         streams = {it: os.open(f"{self.room}/relay.{it}", os.O_RDWR | os.O_CREAT | os.O_TRUNC | os.O_CLOEXEC) for it in ("out", "said")}

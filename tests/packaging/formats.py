@@ -109,7 +109,7 @@ def faulty(program, room, tries):
     with open(f"{room}/site", "w", encoding="utf-8") as it:
         it.write(site)
     done = subprocess.run([program, "check", "--all", "site"], cwd=room, stdin=subprocess.DEVNULL, capture_output=True,
-                          timeout=100, check=False)
+                          timeout=300, check=False)
     found = re.findall(r"(?m)^syc: 4\d \w+ of hub(\d+): (\S+)$", done.stderr.decode("utf-8", "replace"))
     return {int(number) for number, word in found if word == tries[int(number)][1]}
 

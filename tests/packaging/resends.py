@@ -3,6 +3,7 @@
 sh and python3, and with bash and perl. The last line is 'N passed, M failed'."""
 
 import fcntl
+import itertools
 import os
 import re
 import shutil
@@ -14,7 +15,12 @@ import tempfile
 import time
 
 TOP = os.path.dirname(os.path.dirname(os.path.dirname(os.path.realpath(__file__))))
+sys.dont_write_bytecode = True
+sys.path.insert(0, f"{TOP}/tests/relay")
+from ports import free_ports, own_ports  # noqa: E402
+
 WRAPPER = os.path.join(TOP, "packaging", "syc-run")
+LIMIT = 120  # seconds in which what has to come comes, beside whatever else the host does
 TOOLS = "cat cut mkdir mkfifo mktemp mv rm sed sort timeout tr uniq".split()
 # What it listens at and what it does there is in PORTS; it ends with STATUS, once its standard input and its connections end.
 RELAY = f"""#!{sys.executable} -S
@@ -100,6 +106,11 @@ class Room:
         self.write(f"bin/{sender}", f'#!/bin/sh\nexec {sys.executable if sender == "python3" else shutil.which("perl")} "$@"\n'.encode(), 0o755)
         self.write("bin/systemd-notify", NOTIFY.encode(), 0o755)
 
+    def ports(self, count):
+        """Ports that nobody listens at, the lowest first."""
+        block, self.holds = own_ports()
+        return list(itertools.islice(free_ports(block), count))
+
     def path(self, name):
         return os.path.join(self.folder, name)
 
@@ -126,7 +137,7 @@ class Room:
                                             stderr=error or file, start_new_session=True)
 
     def wait(self, what, condition):
-        end = time.monotonic() + 30
+        end = time.monotonic() + LIMIT
         while not condition():
             if time.monotonic() > end or self.process.poll() is not None:
                 raise Failure(f"{what} didn't come; standard error: {self.read('err')!r}")
@@ -137,14 +148,21 @@ class Room:
 
     def stop(self):
         self.process.send_signal(signal.SIGTERM)
-        return self.process.wait(30)
+        return self.process.wait(LIMIT)
 
     def said(self):
         return re.findall("syc-run: .*", self.read("err").decode())
 
+    def of_session(self):
+        """The processes of the session which still run."""
+        return [int(it) for it in os.listdir("/proc") if it.isdigit() and session_of(it) == (self.process and self.process.pid)]
+
     def end(self):
-        """Ends what still runs of the session, and says whether anything did, or a folder is left."""
-        found = [int(it) for it in os.listdir("/proc") if it.isdigit() and session_of(it) == (self.process and self.process.pid)]
+        """Ends what still runs of the session a while after the wrapper has ended, and says whether anything did, or a folder is left."""
+        end = time.monotonic() + 10
+        while self.process and self.process.poll() is not None and self.of_session() and time.monotonic() < end:
+            time.sleep(0.01)
+        found = self.of_session()
         for it in found:
             os.kill(it, signal.SIGKILL)
         if self.process:
@@ -161,17 +179,9 @@ def session_of(process):
     return 0 if words[0] in "ZX" else int(words[3])
 
 
-def free_ports(count):
-    several = [socket.create_server(("127.0.0.1", 0)) for _ in range(count)]
-    found = sorted(it.getsockname()[1] for it in several)
-    for it in several:
-        it.close()
-    return found
-
-
 @test
 def files_are_sent_in_their_order(room):
-    first, second = free_ports(2)
+    first, second = room.ports(2)
     for place, name in enumerate((f"left.{first}", f"left.{first}.2", f"left.{first}.10", f"left.{second}.1")):
         room.write(name, frames(place * 5000, 5000))
     room.start({first: "takes", second: "takes"}, 3)
@@ -189,7 +199,7 @@ def files_are_sent_in_their_order(room):
 
 
 def kept_by(room, way, reasons):
-    first, second = free_ports(2)
+    first, second = room.ports(2)
     room.write(f"left.{first}", frames(0, 1))
     room.write(f"left.{first}.1", frames(1, 1))
     room.write(f"left.{second}", frames(2, 1))
@@ -221,7 +231,7 @@ def file_whose_connection_is_closed_unread_is_kept(room):
 
 @test
 def file_with_a_faulty_frame_is_kept(room):
-    port, = free_ports(1)
+    port, = room.ports(1)
     for number, bad in enumerate((b"17 <34>1 - - -", b"017 <34>1 - - - - - -", b"65537 x", b"hello", b"17")):
         room.write(f"left.{port}" + f".{number}" * bool(number), frames(0, 1) + bad)
     room.write(f"left.{port}.5", frames(7, 1))
@@ -235,7 +245,7 @@ def file_with_a_faulty_frame_is_kept(room):
 
 @test
 def what_is_unfinished_or_of_no_input_is_kept(room):
-    port, other = free_ports(2)
+    port, other = room.ports(2)
     names = ["left", f"left.{other}", f"left.{port}.1.new", f"left.{port}.new", "left.old"]
     for it in names:
         room.write(it, frames(0, 1))
@@ -254,7 +264,7 @@ def what_is_unfinished_or_of_no_input_is_kept(room):
 
 
 def stopped(room, way, status, files):
-    port, = free_ports(1)
+    port, = room.ports(1)
     room.write(f"left.{port}", frames(0, 1))
     room.write(f"left.{port}.1", frames(1, 1))
     room.start({port: way}, status)
@@ -283,7 +293,7 @@ def file_is_kept_where_a_relay_fails_at_its_stop(room):
 
 @test
 def next_file_of_a_stop_comes_after_those_that_wait(room):
-    port, = free_ports(1)
+    port, = room.ports(1)
     for number, it in enumerate((frames(0, 1), b"17 x", frames(2, 1))):
         room.write(f"left.{port}" + f".{number}" * bool(number), it)
     room.start({port: "takes"})
@@ -302,7 +312,7 @@ def next_file_of_a_stop_comes_after_those_that_wait(room):
 @test
 def goes_on_without_systemd_notify(room):
     os.unlink(room.path("bin/systemd-notify"))
-    port, = free_ports(1)
+    port, = room.ports(1)
     room.write(f"left.{port}", frames(0, 1))
     room.start({port: "takes"})
     room.wait("that all was taken", lambda: room.left() == [])
@@ -312,7 +322,7 @@ def goes_on_without_systemd_notify(room):
 
 @test
 def stops_while_nobody_reads_what_it_says(room):
-    port, = free_ports(1)
+    port, = room.ports(1)
     room.write(f"left.{port}", frames(0, 1))
     reading, writing = os.pipe()
     try:
@@ -337,7 +347,7 @@ def _accepts(port):
 @test
 def words_that_are_missing(room):
     room.start({}, words=("--resend", "site", "hub"))
-    same("status", room.process.wait(30), 2)
+    same("status", room.process.wait(LIMIT), 2)
     same("said", room.said(), ["syc-run: --resend needs --left FILE: see syc-run -h"])
 
 

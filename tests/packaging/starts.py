@@ -15,7 +15,7 @@ import time
 
 TOP = os.path.dirname(os.path.dirname(os.path.dirname(os.path.realpath(__file__))))
 WRAPPER = os.path.join(TOP, "packaging", "syc-run")
-LIMIT = 20
+LIMIT = 120  # seconds in which a start that was ended has ended, beside whatever else the host does
 RELAY = """#!/bin/sh
 : >"$STARTED"
 echo "syc: input 9 listening at 127.0.0.1" >&2
@@ -53,7 +53,10 @@ def fault_of(words, environment, room, delay, number):
         allowed = [3] if os.path.exists(started) else [0, -number]
         if status not in allowed:
             return f"status {status}, not {' or '.join(map(str, allowed))}"
-        left = of_session(process.pid)
+        # (what it has ended may still end)
+        end = time.monotonic() + LIMIT
+        while (left := of_session(process.pid)) and time.monotonic() < end:
+            time.sleep(0.01)
         if left:
             return f"{len(left)} processes were left"
         if os.listdir(environment["TMPDIR"]):

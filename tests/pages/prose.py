@@ -4,15 +4,15 @@ import glob
 import os
 import re
 
-MOST_WORDS = 60_000
+MOST_WORDS, OF_THE_BOOK, LINES_OF_README = 60_000, 12_000, 150
 IN_README, ELSEWHERE = 30, 40
 ITEM = re.compile(r"\s*(?:[-*]|\d+\.) ")
 
 
 def pages(top):
     """The pages of the repository, README first."""
-    named = [f"{top}/README.md", *sorted(glob.glob(f"{top}/docs/*.md")), f"{top}/tests/README.md"]
-    named += sorted(glob.glob(f"{top}/crates/*/README.md"))
+    named = [f"{top}/README.md", *sorted(glob.glob(f"{top}/docs/*.md")), *sorted(glob.glob(f"{top}/docs/book/*.md"))]
+    named += [f"{top}/tests/README.md", *sorted(glob.glob(f"{top}/crates/*/README.md"))]
     return [os.path.relpath(it, top) for it in named]
 
 
@@ -43,8 +43,8 @@ def sentences(text):
 
 
 def judge(top):
-    """What is wrong with the pages, and how many were looked at; all of them together are one more."""
-    wrong, words, named = [], 0, pages(top)
+    """What is wrong with the pages, and how many were looked at; README by itself, the book and all together are three more."""
+    wrong, words, of_book, named = [], 0, 0, pages(top)
     for page in named:
         with open(f"{top}/{page}", encoding="utf-8") as it:
             text = it.read()
@@ -53,5 +53,10 @@ def judge(top):
         found = [f"{page}: {len(it.split())} words, of at most {most}: {' '.join(it.split()[:8])} .." for it in long]
         wrong.append("\n".join(found))
         words += 0 if page.startswith("docs/THEOREM") else len(text.split())
+        of_book += len(text.split()) if page.startswith("docs/book/") else 0
+        if page == "README.md":
+            lines = text.count("\n")
+            wrong.append(f"README has {lines} lines, of at most {LINES_OF_README}" if lines > LINES_OF_README else "")
+    wrong.append(f"the book has {of_book} words, of at most {OF_THE_BOOK}" if of_book > OF_THE_BOOK else "")
     wrong.append(f"the pages have {words} words, of at most {MOST_WORDS}" if words > MOST_WORDS else "")
     return [it for it in wrong if it], len(wrong)

@@ -30,7 +30,7 @@ def full(room, retries=-1, **more):
     receiver = Receiver(inner, reads=False, small=True, **more)
     pump = Pump(port, 0, "a" * 1000)
     receiver.is_connected()
-    pump.is_held()
+    pump.is_held(relay)
     return relay, port, receiver, pump
 
 
@@ -92,9 +92,10 @@ def interval_between_retries_is_waited_for(room):
 
 @test
 def receiver_comes_up_before_the_last_retry(room):
-    relay, port, inner = edge(room, 3, 4)
+    # (the three retries take 24 s, of which a busy machine may take some until the receiver is there)
+    relay, port, inner = edge(room, 3, 8)
     send_all(port, messages(10))
-    relay.rests(port)
+    relay.says("syc: action up fails: connection refused")
     receiver = Receiver(inner)
     room.holds("after.log", messages(10))
     receiver.has(messages(10))

@@ -47,7 +47,7 @@ def each_message_fault(room):
         good += pair
         wanted.append(unread(port, 1, fault, place, 2))
     room.holds("audit.log", good)
-    same("totals", relay.stop(), totals(len(good), 0, 0, ("audit", len(good), len(good), 0, 0), unread=len(wanted)))
+    same("totals", relay.stop_at_rest(), totals(len(good), 0, 0, ("audit", len(good), len(good), 0, 0), unread=len(wanted)))
     says(relay, wanted)
 
 
@@ -58,7 +58,7 @@ def all_message_faults_of_a_connection(room):
     send_all(port, texts)
     room.holds("audit.log", messages(len(MESSAGE_FAULTS)))
     count = len(MESSAGE_FAULTS)
-    same("totals", relay.stop(), totals(count, 0, 0, ("audit", count, count, 0, 0), unread=count))
+    same("totals", relay.stop_at_rest(), totals(count, 0, 0, ("audit", count, count, 0, 0), unread=count))
     fault, place, _ = MESSAGE_FAULTS[0]
     says(relay, [unread(port, count, fault, place, 2)])
 
@@ -97,7 +97,7 @@ def unread_frames_before_a_frame_fault(room):
     sender = Sender(port).send_bytes(frames([message(0), b"x", b"y", message(1)]) + b"0")
     sender.is_ended()
     room.holds("audit.log", messages(2))
-    same("totals", relay.stop(), totals(2, 0, 0, ("audit", 2, 2, 0, 0), unread=2))
+    same("totals", relay.stop_at_rest(), totals(2, 0, 0, ("audit", 2, 2, 0, 0), unread=2))
     says(relay, [re.compile(re.escape(f"syc: 11 BadLength at {port}")), unread(port, 2, "1 Pri", 0, 2)])
 
 
@@ -106,5 +106,5 @@ def many_unread_frames(room):
     relay, port = room.hub()
     send_all(port, [b"x"] * 100_000 + [message(0)] + [b"<34>2 - - - - - -"] * 5000)
     room.holds("audit.log", messages(1))
-    same("totals", relay.stop(), totals(1, 0, 0, ("audit", 1, 1, 0, 0), unread=105_000))
+    same("totals", relay.stop_at_rest(), totals(1, 0, 0, ("audit", 1, 1, 0, 0), unread=105_000))
     says(relay, [unread(port, 105_000, "1 Pri", 0, 1)])

@@ -4,9 +4,9 @@ import shutil
 import subprocess
 
 from archives import Pipe
-from control import asked
+from control import DRAIN, asked
 from peers import Pump, Sender, frame, message, messages, send_all, send_side_by_side, split
-from room import Failure, LeftOut, imtcp, main_queue, module, omfile, omfwd, same, test, totals, until
+from room import WAIT, Failure, LeftOut, imtcp, main_queue, module, omfile, omfwd, same, test, totals, until
 
 COUNT = 100_000
 # The queue of an entry that waits before it is full, and discards nothing.
@@ -14,13 +14,13 @@ QUEUE = ('ruleset(name="out" queue.type="LinkedList" queue.size="{}" queue.fullD
          'queue.discardSeverity="8") {{\n{}}}\n')
 
 
-def two_relays(room, size, interval=30):
-    """Starts edge and hub, which are accepted; answers both and edge's port."""
+def two_relays(room, size, interval=30, words=()):
+    """Starts edge and hub, which are accepted, and hub with these words more; answers both and edge's port."""
     entry, inner = room.port(), room.port()
     edge = module() + imtcp(entry, ruleset="out") + QUEUE.format(size, size * 9 // 10, omfwd("up", "hub", inner, -1, interval))
     room.site({"edge": edge, "hub": module() + imtcp(inner) + omfile("audit", "audit.log")},
               f"entry edge {entry}", "protect auth.* hub audit")
-    hub = room.start("hub", inner)
+    hub = room.start("hub", inner, words=["site", "hub", *words])
     return room.start("edge", entry), hub, entry
 
 
@@ -44,17 +44,17 @@ def over_two_relays(room, size, connections):
                           f"wanted {lists[it][at:at + 1]}, came {came[it][at:at + 1]}")
 
 
-@test(limit=240)
+@test(limit=3600)
 def two_hops_over_one_connection(room):
     over_two_relays(room, 50_000, 1)
 
 
-@test(limit=240)
+@test(limit=3600)
 def two_hops_over_eight_connections(room):
     over_two_relays(room, 50_000, 8)
 
 
-@test(limit=240)
+@test(limit=3600)
 def two_hops_through_a_short_queue(room):
     over_two_relays(room, 100, 2)
 
@@ -83,8 +83,10 @@ def logger_as_a_sender(room):
     texts = ["a single text with äöü"] + [f"text {it} {'a' * (it % 300)}" for it in range(4999)]
     room.write("texts", "".join(f"{it}\n" for it in texts[1:]))
     command = ["logger", "--rfc5424", "--tcp", "--octet-count", "-n", "127.0.0.1", "-P", str(port), "-p", "auth.crit", "-t", "tests"]
-    subprocess.run([*command, texts[0]], check=True, timeout=40)
-    subprocess.run([*command, "-f", room.path("texts")], check=True, timeout=40)
+    subprocess.run([*command, texts[0]], check=True, timeout=WAIT)
+    # (it doesn't wait until it was read, and the next one has another connection)
+    room.has("audit.log", 1)
+    subprocess.run([*command, "-f", room.path("texts")], check=True, timeout=WAIT)
     room.has("audit.log", 5000)
     relay.stops_with(totals(5000, 0, 0, ("audit", 5000, 5000, 0, 0)))
     lines = [it.decode() for it in room.lines("audit.log")]
@@ -176,15 +178,16 @@ def hub_stopped_in_order_and_restarted(room):
     hub.stops_with(totals(0, 0, 0, ("audit", 0, 0, 0, 0)))
 
 
-@test(limit=240)
+@test(limit=3600)
 def hub_restarted_in_order_under_load(room):
-    edge, hub, port = two_relays(room, 1000, 0)
+    # (hub reads on for so long that edge looks meanwhile, and ends its link, also where two seconds don't do for that)
+    edge, hub, port = two_relays(room, 1000, 0, DRAIN)
     inner = int(room.read("edge.conf").split(b'target="hub" port="')[1].split(b'"')[0])
     pump, held = Pump(port, 0, "a" * 100), 0
     for _ in range(3):
         room.has("audit.log", room.count("audit.log") + 3000)
         held += int(hub.stop().split()[5])
-        hub = room.start("hub", inner)
+        hub = room.start("hub", inner, words=["site", "hub", *DRAIN])
     room.has("audit.log", room.count("audit.log") + 3000)
     pump.finish()
     edge.rests(port)
@@ -210,7 +213,7 @@ def hub_restarted_in_order_while_it_is_held(room):
     hub = room.start("hub", inner, words=["site", "hub", "--left", "left"])
     edge = room.start("edge", entry)
     pump = Pump(entry, 0, "a" * 1000)
-    pump.is_held()
+    pump.is_held(edge, hub)
     # (what accepts, what starts readers, and each reader end)
     before = len(hub.threads())
     hub.process.stdin.close()

@@ -3,7 +3,7 @@
 import time
 
 from peers import Receiver, Sender, message, messages, send_all
-from room import Failure, imtcp, main_queue, module, omfile, omfwd, same, test, totals, until
+from room import WAIT, Failure, imtcp, main_queue, module, omfile, omfwd, same, test, totals, until
 
 INFO, CRIT = 38, 34  # auth.info, auth.crit
 
@@ -125,14 +125,14 @@ def light_delay_takes_a_second(room):
 @test
 def light_delay_ends_below_the_mark(room):
     relay, port, inner = stuck(room, "on", interval=0, lightDelayMark=3, timeoutEnqueue=0)
-    sender = Sender(port).send(*messages(43))
+    # (if each of those above the mark took a second while the queue is emptied, this would take far longer than is waited for)
+    count = 10 * WAIT
+    sender = Sender(port).send(*messages(count))
     receiver = Receiver(inner)
-    begun = time.monotonic()
-    receiver.has([message("first"), *messages(43)])
+    receiver.has([message("first"), *messages(count)])
     sender.end()
-    if time.monotonic() - begun >= 40:
-        raise Failure("40 messages above the mark of light delay waited for a second each, while the queue was emptied")
-    relay.stops_with(totals(44, 0, 0, ("first", 44, 44, 0, 0), ("up", 44, 44, 0, 0)))
+    count += 1
+    relay.stops_with(totals(count, 0, 0, ("first", count, count, 0, 0), ("up", count, count, 0, 0)))
 
 
 @test

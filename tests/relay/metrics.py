@@ -13,7 +13,7 @@ from control import asked, edge, printed
 from crowd import document
 from marks import stuck
 from peers import Pump, Receiver, Sender, frame, message, messages, send_all
-from room import Failure, LeftOut, imtcp, is_listening, main_queue, module, omfile, omfwd, same, test, totals, until
+from room import WAIT, Failure, LeftOut, imtcp, is_listening, main_queue, module, omfile, omfwd, same, test, totals, until
 
 EACH_SECOND = ["--metrics", "m.prom", "--metrics-every", "1"]
 SAMPLE = re.compile(r'(\w+)\{((?:\w+="(?:[^"\\\n]|\\["\\n])*",?)+)\} (\d+)')
@@ -145,7 +145,7 @@ def metrics_are_never_half_there(room):
     relay, port, file = watched_hub(room)
     file.shows("running", 1)
     pump = Pump(port, 0)
-    inodes, end = [], time.monotonic() + 30
+    inodes, end = [], time.monotonic() + WAIT
     while len(inodes) < 4:
         with open(file.path, encoding="utf-8") as it:
             inode, text = os.fstat(it.fileno()).st_ino, it.read()
@@ -154,7 +154,7 @@ def metrics_are_never_half_there(room):
         if inode not in inodes[-1:]:
             inodes.append(inode)
         if time.monotonic() > end:
-            raise Failure(f"{len(inodes)} files in 30 s")
+            raise Failure(f"{len(inodes)} files in {WAIT} s")
     pump.finish()
     room.has("audit.log", pump.sent)
     file.shows("messages_taken_total", pump.sent, input=port)
@@ -336,7 +336,7 @@ def metrics_checked_by_promtool(room):
 
 def scraped(port):
     try:
-        with urllib.request.urlopen(f"http://127.0.0.1:{port}/metrics", timeout=20) as it:
+        with urllib.request.urlopen(f"http://127.0.0.1:{port}/metrics", timeout=WAIT) as it:
             return it.read().decode()
     except urllib.error.URLError as failure:
         raise Failure(f"node_exporter: {failure}") from None
@@ -361,5 +361,5 @@ def metrics_read_by_node_exporter(room):
         if wanted not in lines:
             raise Failure(f"node_exporter doesn't tell {wanted!r}: {[it for it in lines if 'syc' in it or 'textfile' in it]}")
     exporter.terminate()
-    exporter.wait(20)
+    exporter.wait(WAIT)
     relay.stop()

@@ -5,9 +5,10 @@ import struct
 import threading
 import time
 
-from room import TURN, Failure, same, until
+from room import WAIT, Failure, is_linked, is_read, same, until
 
-PAUSE = 60  # seconds that a peer waits for the other side at most
+PAUSE = 5 * WAIT  # seconds that a peer waits for the other side at most, which may be held as long as a test waits for something
+PIECE = 65_536  # bytes that are sent at once
 
 
 def message(number, text="", pri=34, connection=0):
@@ -48,7 +49,10 @@ class Sender:
         return self.send_bytes(frames(texts))
 
     def send_bytes(self, data):
-        self.socket.sendall(data)
+        """Sends bytes; the time limit is that of each piece."""
+        with memoryview(data) as left:
+            for at in range(0, len(data), PIECE):
+                self.socket.sendall(left[at:at + PIECE])
         return self
 
     def half_close(self):
@@ -106,7 +110,7 @@ class Pump:
     """A connection over which messages are sent without end, until the relay or `end` ends it."""
 
     def __init__(self, port, connection, text=""):
-        self.more = {"connection": connection, "text": text}
+        self.port, self.more = port, {"connection": connection, "text": text}
         self.sender, self.sent, self.is_over = Sender(port), 0, False
         self.sender.socket.settimeout(None)
         self.thread = threading.Thread(target=self.run, daemon=True)
@@ -120,14 +124,10 @@ class Pump:
         except OSError:
             pass
 
-    def is_held(self):
-        """Waits until the relay reads no more, half a second long."""
-        def stands():
-            before, end = self.sent, time.monotonic() + 0.5
-            while self.sent == before and time.monotonic() < end:
-                time.sleep(TURN)
-            return self.sent == before
-        until("the relay holds the sender", stands, came=lambda: f"{self.sent} messages sent")
+    def is_held(self, *relays):
+        """Waits until these relays rest, while bytes that it has sent aren't read."""
+        until("the relay holds the sender", lambda: all(it.is_quiet(()) for it in relays) and not is_read(self.port),
+              came=lambda: f"{self.sent} messages sent")
 
     def finish(self):
         """Ends the connection, once the relay has taken all that was sent."""
@@ -158,7 +158,7 @@ class Receiver:
     """Listens, and reads all that comes over each connection, or nothing where it doesn't read."""
 
     def __init__(self, port, reads=True, backlog=16, small=False):
-        self.came, self.connections, self.reads = [], [], reads
+        self.port, self.came, self.connections, self.reads = port, [], [], reads
         self.listener = socket.socket()
         self.listener.setsockopt(socket.SOL_SOCKET, socket.SO_REUSEADDR, 1)
         if small:
@@ -250,3 +250,4 @@ class Receiver:
             if self.reads:
                 thread.join(PAUSE)
             connection.close()
+        until("the other sides have seen the end", lambda: not is_linked(self.port))

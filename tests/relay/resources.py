@@ -8,7 +8,7 @@ import time
 
 from crowd import READERS, connected, has_open, held_now, open_now, said
 from peers import Pump, Receiver, Sender, frame, frames, message, messages, send_all
-from room import TURN, Failure, imtcp, is_read, main_queue, module, omfile, omfwd, same, test, totals, until
+from room import Failure, imtcp, is_read, main_queue, module, omfile, omfwd, same, test, totals, until
 from stops import forwarding
 
 MANY = 1500
@@ -47,7 +47,7 @@ def settles(relay, before):
     until("no descriptor and no thread is left", lambda: is_settled(left(relay), before), came=lambda: f"{left(relay)} after {before}")
 
 
-@test(limit=240)
+@test(limit=3600)
 def many_short_connections(room):
     relay, port = room.hub()
     before = left_at_first(room, relay, port)
@@ -130,7 +130,7 @@ def memory_of_senders_that_are_held(room):
                 still = 0
             except BlockingIOError:
                 pass
-        time.sleep(TURN)
+        time.sleep(0.01)
     memory = relay.status_field("VmRSS")
     if memory > 32 * 1024:
         raise Failure(f"64 senders that are held: {memory} KiB are resident")
@@ -186,7 +186,8 @@ def senders_wait_for_descriptors(room):
 @test
 def stop_without_descriptors(room):
     relay, port, senders = with_few_descriptors(room)
-    room.has("audit.log", 2)
+    # (all that it can take then; it doesn't rest while others wait)
+    room.has("audit.log", 1 + FREE)
     output = relay.stop()
     count = len(room.lines("audit.log"))
     same("totals", output, totals(count, 0, 0, ("audit", count, count, 0, 0)))
@@ -304,7 +305,7 @@ def relay_whose_link_is_full_takes_next_to_no_processor(room):
     receiver = Receiver(inner, reads=False, small=True)
     pump = Pump(port, 0, "a" * 1000)
     receiver.is_connected()
-    pump.is_held()
+    pump.is_held(relay)
     takes_next_to_nothing(relay)
     relay.stop()
     pump.end()

@@ -4,15 +4,18 @@ import array
 import fcntl
 import os
 import re
+import signal
 import socket
 import subprocess
 import termios
 import time
 
-# Ports of tests lie below those that the host gives to outgoing connections; each test has PORTS of them.
-FIRST_PORT, LAST_PORT, PORTS = 12000, 32000, 80
-TURN = 0.005  # seconds between two looks at a condition
-STOP = 40  # seconds in which a relay has to end after its standard input, beside whatever else the host does
+from ports import free_ports
+
+TURN, LONGEST = 0.002, 0.05  # seconds between the first two looks at a condition, and between later ones at most
+COUNTS = 0.2  # seconds from a look to the next that count at most: what a busy machine takes beyond that for others isn't counted
+QUIET = 0.1  # seconds in which what rests does nothing
+WAIT = 120  # seconds in which what has to come comes, and a relay ends after its standard input, beside whatever else the host does
 TESTS = []
 
 # A line on standard error that is a fault, or a connection's count of frames that are no messages.
@@ -20,7 +23,7 @@ FAULT = re.compile(r"syc: (\d+ \w+ (at|in|of) .*|\d+ unread at .*|no relay .*|no
 # How often a fault came besides, behind its line.
 OTHERS = re.compile(r"(syc: \d+ \w+ at \d+), and (\d+) others")
 # A line of a start.
-START = re.compile(r"syc: (input \d+ listening at .*|relay \S+ runs: site [0-9a-f]{64}, \d+ files)")
+START = re.compile(r"syc: (input \d+ listening at .*|relay \S+ runs: site [0-9a-f]{64}, \d+ files|relay \S+ program: .*)")
 
 
 class Failure(Exception):
@@ -37,7 +40,7 @@ class Test:
         self.name, self.group = body.__name__, body.__module__
 
 
-def test(body=None, limit=120):
+def test(body=None, limit=900):
     """Marks a function of a room as a test that takes at most so many seconds."""
     if body is None:
         return lambda it: test(it, limit)
@@ -58,16 +61,23 @@ def same(what, came, wanted):
         raise Failure(f"{what}: wanted {shown(wanted)!r}, came {shown(came)!r}")
 
 
-def until(what, holds, seconds=60, came=None):
+def until(what, holds, seconds=WAIT, came=None):
     """Waits until a condition holds, and answers its value."""
-    end = time.monotonic() + seconds
+    spent, pause, last = 0, TURN, time.monotonic()
     while True:
         value = holds()
         if value:
             return value
-        if time.monotonic() > end:
+        if spent > seconds:
             raise Failure(f"{what}: not within {seconds} s{'' if came is None else f', came {shown(came())!r}'}")
-        time.sleep(TURN)
+        time.sleep(pause)
+        pause = min(pause * 1.3, LONGEST)
+        spent, last = spent + min(time.monotonic() - last, COUNTS), time.monotonic()
+
+
+def is_emptied(wanted):
+    """Whether a relay with these totals has nothing left to do."""
+    return " held 0\n" in wanted and not re.search(r" left [1-9]", wanted)
 
 
 def totals(taken, lost, held, *actions, unread=None):
@@ -93,9 +103,43 @@ def is_listening(port):
     return any(it[0] == port and it[1] == LISTEN for it in sockets())
 
 
+def is_linked(port, address="127.0.0.1"):
+    """Whether a connection to that place is up, as the side that made it sees it."""
+    to = "".join(f"{int(it):02X}" for it in reversed(address.split("."))) + f":{port:04X}"
+    with open("/proc/net/tcp") as it:
+        return any(row.split(None, 4)[2:4] == [to, "01"] for row in it.readlines()[1:])
+
+
 def is_read(*ports):
     """Whether all that came over the connections of these ports has been read."""
     return not any(it[0] in ports and it[1] in READABLE and it[2] for it in sockets())
+
+
+def threads_of(process, but=None):
+    """Of each of its threads, but for one, the state, and what it has done so far: ticks and turns of the processor."""
+    found = {}
+    for thread in os.listdir(f"/proc/{process}/task"):
+        try:
+            with open(f"/proc/{process}/task/{thread}/stat") as it:
+                fields = it.read().rpartition(")")[2].split()
+            with open(f"/proc/{process}/task/{thread}/status") as it:
+                turns = re.findall(r"ctxt_switches:\s*(\d+)", it.read())
+        except (FileNotFoundError, ProcessLookupError):
+            continue
+        found[thread] = (fields[0], fields[11], fields[12], *turns)
+    found.pop(str(but), None)
+    return found
+
+
+def are_asleep(process, but=None):
+    """Whether its threads, but for one, sleep a tenth of a second long.
+
+    (Two looks tell that, as they count turns: more of them would last too long on a busy machine for what wakes each second.)"""
+    before = threads_of(process, but)
+    if any(it[0] != "S" for it in before.values()):
+        return False
+    time.sleep(QUIET)
+    return threads_of(process, but) == before
 
 
 # ---- Configurations
@@ -187,22 +231,27 @@ class Relay:
         fcntl.ioctl(self.process.stdin, termios.FIONREAD, found)
         return found[0]
 
-    def ends(self, seconds=STOP):
+    def ends(self, seconds=WAIT):
         """Waits for its end, and answers its status."""
-        try:
-            return self.process.wait(seconds)
-        except subprocess.TimeoutExpired:
-            raise Failure(f"{self.name} didn't end within {seconds} s: {shown(self.errors())}") from None
+        until(f"{self.name} ends", lambda: self.process.poll() is not None, seconds, self.errors)
+        return self.process.returncode
 
     def stop(self):
-        """Ends its standard input, and waits for its end with status 0; answers what it printed."""
+        """Ends its standard input, and waits for its end with status 0; answers what it printed. How long it took is kept."""
+        begun = time.monotonic()
         self.process.stdin.close()
         same(f"status of {self.name} ({shown(self.errors())})", self.ends(), 0)
+        self.took = time.monotonic() - begun
         return self.output()
 
+    def stop_at_rest(self):
+        """The same, once it rests: what it took may still be on its way to an archive, and a stop doesn't wait for that."""
+        self.rests()
+        return self.stop()
+
     def stops_with(self, wanted, faults=()):
-        """Stops it, and compares its totals, and its faults in any order."""
-        same(f"totals of {self.name}", self.stop(), wanted)
+        """Stops it, at rest where nothing may be held then, and compares its totals, and its faults in any order."""
+        same(f"totals of {self.name}", self.stop_at_rest() if is_emptied(wanted) else self.stop(), wanted)
         same(f"faults of {self.name}", sorted(self.faults()), sorted(faults))
 
     def kill(self):
@@ -210,35 +259,15 @@ class Relay:
         self.process.wait()
 
     def threads(self):
-        """Of each of its threads the state, and what it has done so far: ticks and turns of the processor."""
-        found = {}
-        for thread in os.listdir(f"/proc/{self.pid}/task"):
-            try:
-                with open(f"/proc/{self.pid}/task/{thread}/stat") as it:
-                    fields = it.read().rpartition(")")[2].split()
-                with open(f"/proc/{self.pid}/task/{thread}/status") as it:
-                    turns = re.findall(r"ctxt_switches:\s*(\d+)", it.read())
-            except (FileNotFoundError, ProcessLookupError):
-                continue
-            found[thread] = (fields[0], fields[11], fields[12], *turns)
-        return found
+        return threads_of(self.pid)
 
     def is_quiet(self, ports):
-        """Whether nothing that was sent to these ports is unread, and all threads sleep, a tenth of a second long."""
-        if not is_read(*ports):
-            return False
-        before = self.threads()
-        for _ in range(20):
-            if any(it[0] != "S" for it in before.values()):
-                return False
-            time.sleep(TURN)
-            if self.threads() != before:
-                return False
-        return is_read(*ports)
+        """Whether nothing that was sent to these ports is unread, and all its threads sleep for a while."""
+        return is_read(*ports) and are_asleep(self.pid) and is_read(*ports)
 
     def rests(self, *ports):
-        """Waits until it has nothing to do but to wait for its peers."""
-        until(f"{self.name} rests", lambda: self.is_quiet(ports), came=self.threads)
+        """Waits until it has nothing to do but to wait for its peers, or has ended."""
+        until(f"{self.name} rests", lambda: self.process.poll() is not None or self.is_quiet(ports), came=self.threads)
 
     def status_field(self, name):
         """A number of /proc/PID/status."""
@@ -250,23 +279,14 @@ class Room:
     """The folder and the ports of a test."""
 
     def __init__(self, program, folder, port):
-        self.program, self.folder, self.next, self.last = program, folder, port, port + PORTS
+        self.program, self.folder, self.block, self.ports = program, folder, port, free_ports(port)
 
     def path(self, name):
         return f"{self.folder}/{name}"
 
     def port(self):
         """A port that nobody listens on."""
-        while self.next < self.last:
-            self.next += 1
-            with socket.socket() as it:
-                it.setsockopt(socket.SOL_SOCKET, socket.SO_REUSEADDR, 1)
-                try:
-                    it.bind(("127.0.0.1", self.next - 1))
-                except OSError:
-                    continue
-                return self.next - 1
-        raise Failure("no free port")
+        return next(self.ports)
 
     def ports_are_free(self, *ports):
         """Whether others can listen there now."""
@@ -308,7 +328,7 @@ class Room:
             raise Failure(f"{name} ends in {text[-60:]!r}, without a line feed")
         return text.split(b"\n")[:-1]
 
-    def holds(self, name, messages, seconds=30):
+    def holds(self, name, messages, seconds=WAIT):
         """Waits until an archive is as long as lines of these messages, and compares it with them."""
         wanted = b"".join(it + b"\n" for it in messages)
         until(f"{name} has {len(messages)} messages", lambda: self.size(name) >= len(wanted), seconds,
@@ -330,7 +350,14 @@ class Room:
 
     def start(self, name, *ports, words=None, **more):
         """Starts a relay that was accepted, or with other words than those, and waits for its ports."""
-        return Relay(self, name, words or ["site", name], **more).listens(*ports)
+        while True:
+            relay = Relay(self, name, words or ["site", name], **more)
+            try:
+                return relay.listens(*ports)
+            except Failure:
+                # (strace has what it watches end by an alarm where it isn't ready itself after three seconds)
+                if "under" not in more or relay.process.poll() != -signal.SIGALRM:
+                    raise
 
     def start_unchecked(self, name, *ports):
         return self.start(name, *ports, words=["--unchecked", "site", name])

@@ -11,20 +11,24 @@ import tempfile
 import time
 from multiprocessing.connection import wait
 
-from room import FIRST_PORT, LAST_PORT, PORTS, Failure, LeftOut, Room
+from ports import PORTS, RELAY, own_ports
+from room import Failure, LeftOut, Room
 
+MANY = 20  # times of its limit after which a test ends by itself
 HERE = os.path.dirname(os.path.realpath(__file__))
 TOP = os.path.dirname(os.path.dirname(HERE))
 
 
-def run_alone(test, program, folder, port, answer):
-    """One test, in this process, which leads a group of processes; ends the group where the time limit runs out."""
+def run_alone(test, program, folder, between, block, answer):
+    """One test, in this process, which leads a group of processes; ends the group where the time limit runs out. It has ports
+    of its own between two, of this block or one behind it."""
     os.setpgid(0, 0)
     signal.signal(signal.SIGTERM, signal.SIG_DFL)
     signal.signal(signal.SIGALRM, lambda *_: os.killpg(0, signal.SIGKILL))
-    signal.alarm(test.limit + 5)
+    signal.alarm(MANY * test.limit)
     said = ""
     try:
+        port, _holds = own_ports(between, block)
         measured = test.body(Room(program, folder, port))
         said = f"passed, {measured}" if measured else ""
     except LeftOut as reason:
@@ -43,18 +47,19 @@ def run_alone(test, program, folder, port, answer):
 class Running:
     """A test that has been begun."""
 
-    def __init__(self, test, program, top, port):
-        self.test, self.folder = test, f"{top}/{test.name}"
-        os.mkdir(self.folder)
+    def __init__(self, test, program, top, between, block):
+        # (two groups may have tests of one name)
+        self.test, self.folder = test, f"{top}/{test.group}/{test.name}"
+        os.makedirs(self.folder)
         self.answer, end = multiprocessing.Pipe(duplex=False)
         context = multiprocessing.get_context("fork")
-        self.process = context.Process(target=run_alone, args=(test, program, self.folder, port, end))
+        self.process = context.Process(target=run_alone, args=(test, program, self.folder, between, block, end))
         self.process.start()
         end.close()
-        self.begun = time.monotonic()
+        self.spent = 0
 
     def is_over(self):
-        return self.answer.poll() or not self.process.is_alive() or time.monotonic() - self.begun > self.test.limit
+        return self.answer.poll() or not self.process.is_alive() or self.spent > self.test.limit
 
     def end(self):
         """Ends all that the test started, and says how it ended."""
@@ -73,20 +78,25 @@ class Running:
         return said
 
 
-def run_all(tests, program, jobs, name, first=FIRST_PORT, last=LAST_PORT):
+def run_all(tests, program, jobs, name, between=RELAY):
     """Runs tests, some at once, on ports between two; answers how many passed and failed.
 
     Each that failed, was left out or measured something is a line that begins with a name."""
     counts = {"passed": 0, "failed": 0, "left out": 0}
-    block = random.randrange((last - first) // PORTS)
+    blocks = (between[1] - between[0]) // PORTS
+    block = random.randrange(blocks)
     running, left = [], list(tests)
     with tempfile.TemporaryDirectory() as top:
         try:
             while left or running:
                 while left and len(running) < jobs:
-                    block = (block + 1) % ((last - first) // PORTS)
-                    running.append(Running(left.pop(0), program, top, first + block * PORTS))
+                    block = (block + 1) % blocks
+                    running.append(Running(left.pop(0), program, top, between, block))
+                begun = time.monotonic()
                 wait([it.answer for it in running], 1)
+                # (what a busy machine takes for others doesn't count)
+                for it in running:
+                    it.spent += min(time.monotonic() - begun, 1.2)
                 for it in [it for it in running if it.is_over()]:
                     running.remove(it)
                     said = it.end()

@@ -51,9 +51,10 @@ def silent_within_a_frame(room):
     room.has("audit.log", SILENT + 500)
     senders[0].send_bytes(frame(message(1, connection=0, text=TEXT.decode()))[1:])
     room.has("audit.log", SILENT + 501)
-    found = timers(port)
-    if len(found) != SILENT or not all(timer == KEEPS_ALIVE and 0 <= left <= IDLE for timer, left in found):
-        raise Failure(f"wanted a timer of keep-alive of at most {IDLE} s for each of {SILENT} connections, came {shown(found)}")
+    # (the host may still have the connection that has ended, and one that has just read has another timer for a moment)
+    timed = lambda: [0 <= left <= IDLE for timer, left in timers(port) if timer == KEEPS_ALIVE]
+    until(f"a timer of keep-alive of at most {IDLE} s for each of {SILENT} connections", lambda: timed() == [True] * SILENT,
+          came=lambda: timers(port))
     relay.stops_with(taken(SILENT + 501))
     same("what is told at the stop", told(relay, port), (0, SILENT - 1, 0, 0))
     arrived(room, "audit.log", [messages(1) + messages(1, 1, text=TEXT.decode()),
@@ -94,7 +95,8 @@ def silent_peers_are_asked(room):
 
 # ---- one beside many that flood
 
-FLOODING, SLOW, EACH, MEDIAN = 20, 100, 0.02, 2  # connections, messages, and seconds: between two messages, and at most until one is there
+FLOODING, SLOW, EACH = 20, 100, 0.02  # connections, messages, and seconds between two messages
+BEHIND = 500_000  # messages that are taken before one that was sent before them, in the median at most: ten times what a queue has
 
 
 def flood(port, answer, end):
@@ -120,8 +122,8 @@ def flood(port, answer, end):
 
 @test
 def one_beside_twenty_that_flood(room):
-    """Beside connections that send without end one that sends little gets its messages through, each within a short time."""
-    port, took = room.port(), []
+    """Beside connections that send without end one that sends little gets its messages through, each before many others."""
+    port, took, behind = room.port(), [], []
     room.site({"hub": module() + imtcp(port) + f'if prifilt("mail.*") then {{ {omfile("slow", "slow.log")} stop }}\n'
                + omfile("flood", "/dev/null")})
     relay = room.start_unchecked("hub", port)
@@ -131,10 +133,11 @@ def one_beside_twenty_that_flood(room):
     until("they flood", lambda: relay.status_field("Threads") and not is_read(port))
     sender = Sender(port)
     for number in range(SLOW):
-        begun, size = time.monotonic(), room.size("slow.log")
+        size, before, begun = room.size("slow.log"), document(relay)["taken"], time.monotonic()
         sender.send(message(number, pri=18))
         until(f"message {number} is there", lambda: room.size("slow.log") > size)
         took.append(time.monotonic() - begun)
+        behind.append(document(relay)["taken"] - before)
         time.sleep(max(0, begun + EACH - time.monotonic()))
     end.send(True)
     many = answer.recv()
@@ -142,10 +145,10 @@ def one_beside_twenty_that_flood(room):
     until("all is written", lambda: document(relay)["held"] == 0, came=lambda: document(relay))
     relay.stops_with(totals(SLOW + many, 0, 0, ("slow", SLOW, SLOW, 0, 0), ("flood", many, many, 0, 0)))
     room.holds("slow.log", messages(SLOW, pri=18))
-    median = statistics.median(took)
-    if median >= MEDIAN:
-        raise Failure(f"a message took {median:.3f} s in the median, and {max(took):.3f} s at most")
-    return f"beside {many} messages one took {median * 1000:.0f} ms in the median, {max(took) * 1000:.0f} ms at most"
+    if statistics.median(behind) >= BEHIND:
+        raise Failure(f"{statistics.median(behind):.0f} messages were taken while one waited, in the median, and {max(behind)} at most")
+    return (f"beside {many} messages one took {statistics.median(took) * 1000:.0f} ms in the median, {max(took) * 1000:.0f} ms at most, "
+            f"in which {statistics.median(behind):.0f} others were taken, {max(behind)} at most")
 
 
 # ---- frames in pieces
@@ -253,7 +256,7 @@ def a_hundred_that_send_what_is_no_message(room):
     peers = [unread.address(it) for it in senders]
     for it in senders:
         it.end()
-    same("totals", relay.stop(), unread_inputs.done(800, 600))
+    same("totals", relay.stop_at_rest(), unread_inputs.done(800, 600))
     arrived(room, "audit.log", [messages(6, connection=it) for it in range(100)])
     found, rest = split(room.read("kept"))
     same("behind the last record", rest, b"")

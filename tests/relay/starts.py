@@ -8,7 +8,7 @@ import socket
 import subprocess
 import tempfile
 
-from room import Failure, LeftOut, imtcp, module, omfile, omfwd, same, test, totals
+from room import WAIT, Failure, LeftOut, imtcp, module, omfile, omfwd, same, test, totals
 from statuses import hub_files, refuses
 
 # (nobody else has it, so that a limit of threads is this user's alone)
@@ -144,7 +144,7 @@ def ordinary_user(room):
 
         def ends(words, status, errors, limits=None):
             relay = subprocess.run([*under, f"{folder}/syc", "run", *words], cwd=folder, stdin=subprocess.PIPE, preexec_fn=limits,
-                                   capture_output=True, text=True, timeout=30)
+                                   capture_output=True, text=True, timeout=WAIT)
             same("status", relay.returncode, status)
             same("standard error", relay.stderr, errors)
         yield folder, ends

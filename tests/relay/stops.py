@@ -169,7 +169,7 @@ def of_a_relay_with_sixty_four_inputs(room):
         it.is_ended()
 
 
-@test(limit=240)
+@test(limit=3600)
 def under_load_at_any_moment(room):
     relay, port = room.hub()
     for turn in range(5):
@@ -210,7 +210,7 @@ def while_a_receiver_reads_nothing(room):
     receiver = Receiver(inner, reads=False, small=True)
     pump = Pump(port, 0, "a" * 1000)
     receiver.is_connected()
-    pump.is_held()
+    pump.is_held(relay)
     taken, lost, held, _, _ = stopped(room, relay, port)
     same("lost", lost, 0)
     if held == 0:
@@ -225,7 +225,7 @@ def while_a_receiver_reads_slowly(room):
     receiver = Receiver(inner, reads=False)
     pump = Pump(port, 0, "a" * 60_000)
     receiver.is_connected()
-    pump.is_held()
+    pump.is_held(relay)
     receiver.drips()
     _, lost, _, _, _ = stopped(room, relay, port)
     same("lost", lost, 0)
@@ -239,7 +239,7 @@ def what_is_done_comes_behind_the_end(room):
     receiver = Receiver(inner, reads=False, small=True)
     pump = Pump(port, 0, "a" * 1000)
     receiver.is_connected()
-    pump.is_held()
+    pump.is_held(relay)
     _, lost, _, done, _ = stopped(room, relay, port)
     same("lost", lost, 0)
     # (it stands in socket buffers, and the host sends it on: at most the frame that was under way is cut)

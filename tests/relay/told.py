@@ -177,8 +177,10 @@ def peers_of_faults(room):
     tells(relay, f"syc: input {port} peer {at(first)}: 11 BadLength", sends(port, second, "1 Pri at 1 in frame 2"), unread)
     third = Sender(port).send_bytes(frame(b"34>") + b"18 <34>1 - - - - - -")
     third.half_close().is_ended()
-    same("totals", relay.stop(), totals(1, 0, 0, ("audit", 1, 1, 0, 0), unread=3))
-    same("the last lines", told(relay)[3:], [sends(port, third, "1 Pri at 0 in frame 1"), f"syc: input {port} peer {at(third)}: 13 Truncated, 1 unread, the first 1 Pri at 0 in frame 1"])
+    same("totals", relay.stop_at_rest(), totals(1, 0, 0, ("audit", 1, 1, 0, 0), unread=3))
+    # (each kind once a second at most, so in any order)
+    same("the last lines", sorted(told(relay)[3:]), sorted([sends(port, third, "1 Pri at 0 in frame 1"),
+         f"syc: input {port} peer {at(third)}: 13 Truncated, 1 unread, the first 1 Pri at 0 in frame 1"]))
 
 
 @test

@@ -37,8 +37,8 @@ def done(count, unread, held=0):
 
 
 def has(room, wanted, file="unread"):
-    """Waits until the file has these records, and nothing else."""
-    until(f"{file} has {len(wanted)} records", lambda: room.size(file) >= len(frames(wanted)), came=lambda: room.size(file))
+    """Waits until the file has these records, and nothing else: of one that can't be kept what was written is cut off again."""
+    until(f"{file} has {len(wanted)} records alone", lambda: room.size(file) == len(frames(wanted)), came=lambda: room.size(file))
     same(file, room.read(file), frames(wanted))
 
 
@@ -67,7 +67,7 @@ def each_fault_is_kept_as_it_came(room):
     fault, place, _ = MESSAGE_FAULTS[0]
     relay.says(f"syc: input {port} peer {address(sender)} sends what is no message: {fault} at {place} in frame 2; kept in unread")
     sender.end()
-    same("totals", relay.stop(), done(count, count))
+    same("totals", relay.stop_at_rest(), done(count, count))
     found, rest = split(room.read("unread"))
     same("the bytes of each frame", [it.partition(b"] ")[2] for it in found], [text for _, _, text in MESSAGE_FAULTS])
 
@@ -77,7 +77,7 @@ def none_is_told_where_they_are_kept(room):
     relay, port = hub(room)
     send_all(port, messages(3))
     room.holds("audit.log", messages(3))
-    same("totals", relay.stop(), done(3, 0))
+    same("totals", relay.stop_at_rest(), done(3, 0))
     same("the file", room.read("unread"), b"")
 
 
@@ -89,7 +89,7 @@ def dropped_without_a_file(room):
     relay.says(f"syc: input {port} peer {address(sender)} sends what is no message: 1 Pri at 0 in frame 1; dropped")
     asked(relay, "taken 1 lost 0 held 0\nunread 1\n")
     sender.end()
-    same("totals", relay.stop(), done(1, 1))
+    same("totals", relay.stop_at_rest(), done(1, 1))
 
 
 @test
@@ -99,7 +99,7 @@ def file_of_an_earlier_run_is_gone_on_with(room):
     wanted = [record(port, address(first), 1, "1 Pri", 0, b"first")]
     has(room, wanted)
     first.end()
-    same("totals", relay.stop(), done(0, 1))
+    same("totals", relay.stop_at_rest(), done(0, 1))
     # (a crash may tear the last one)
     with open(room.path("unread"), "ab") as it:
         it.write(b"100 <44>1 - hub")
@@ -109,7 +109,7 @@ def file_of_an_earlier_run_is_gone_on_with(room):
     wanted.append(record(port, address(second), 1, "1 Pri", 0, b"second"))
     has(room, wanted)
     second.end()
-    same("totals", relay.stop(), done(0, 1))
+    same("totals", relay.stop_at_rest(), done(0, 1))
 
 
 @test
@@ -120,7 +120,7 @@ def longest_frame_is_kept_in_two_records(room):
     parts = (text[:32768], ' part="1/2"'), (text[32768:], ' part="2/2"')
     has(room, [record(port, address(sender), 1, "1 Pri", 0, it, part) for it, part in parts])
     sender.end()
-    same("totals", relay.stop(), done(0, 1))
+    same("totals", relay.stop_at_rest(), done(0, 1))
     with open(room.path("unread"), "rb") as it:
         passed = os.popen(f"{room.program} pass < {room.path('unread')} | wc -l").read().strip()
     same("syc pass", int(passed) > 0, True)
@@ -147,7 +147,7 @@ def full_disk_holds_the_connection(room):
     room.holds("audit.log", [message(7), message(0)])
     until("it works again", lambda: re.search(r"^syc: unread file unread works after \d+ s$", relay.errors(), re.M), came=relay.errors)
     sender.end()
-    same("totals", relay.stop(), done(2, 2))
+    same("totals", relay.stop_at_rest(), done(2, 2))
 
 
 @test
@@ -170,7 +170,7 @@ def write_that_fails_at_each_place(room):
         has(room, sum(units, []), name)
         room.holds("audit.log", messages(1))
         sender.end()
-        same("totals", relay.stop(), done(1, 3))
+        same("totals", relay.stop_at_rest(), done(1, 3))
         os.remove(room.path("audit.log"))
 
 
@@ -182,12 +182,12 @@ def file_on_a_disk_that_is_full_for_a_while(room):
     wanted = [record(port, address(sender), number + 1, "1 Pri", 0, it * 3_000) for number, it in enumerate((b"x", b"y"))]
     asked(relay, "taken 0 lost 0 held 0\nunread 1\n")
     read = lambda: open(f"{disk}/unread", "rb").read()
-    same("the file", read(), frames(wanted[:1]))
+    until("the file has the first record alone", lambda: read() == frames(wanted[:1]), came=lambda: len(read()))
     os.unlink(f"{disk}/other")
     until("both are kept", lambda: read() == frames(wanted), came=lambda: len(read()))
     room.holds("audit.log", messages(1))
     sender.end()
-    same("totals", relay.stop(), done(1, 2))
+    same("totals", relay.stop_at_rest(), done(1, 2))
 
 
 @test
@@ -253,7 +253,7 @@ def file_is_opened_anew(room):
     has(room, [record(port, address(sender), 2, "1 Pri", 0, b"second")])
     has(room, [record(port, address(sender), 1, "1 Pri", 0, b"first")], "unread.1")
     sender.end()
-    same("totals", relay.stop(), done(0, 2))
+    same("totals", relay.stop_at_rest(), done(0, 2))
 
 
 @test
@@ -276,7 +276,7 @@ def many_connections_share_the_file(room):
     peers = {address(it).encode() for it in senders}
     for it in senders:
         it.end()
-    same("totals", relay.stop(), done(1000, 1000))
+    same("totals", relay.stop_at_rest(), done(1000, 1000))
     found, rest = split(room.read("unread"))
     same("behind the last record", rest, b"")
     of = {peer: [it.partition(b"] ")[2] for it in found if b'peer="%s"' % peer in it] for peer in peers}
@@ -302,7 +302,7 @@ def frame_that_is_too_long_is_skipped(room):
     sender.end()
     # (its end tells of the first of them too)
     relay.says(f"syc: 3 unread at {port}: 12 TooLong at 0 in frame 2")
-    same("totals", relay.stop(), done(3, 3))
+    same("totals", relay.stop_at_rest(), done(3, 3))
 
 
 @test
@@ -320,7 +320,7 @@ def frames_behind_one_that_is_too_long_are_told(room):
                *parts_of(port, address(other), 3, b"y" * 65536, 70_000), record(port, address(other), 4, "1 Pri", 0, b"z")])
     other.end()
     relay.says(f"syc: 3 unread at {port}: 1 Pri at 0 in frame 2")
-    same("totals", relay.stop(), done(1, 4))
+    same("totals", relay.stop_at_rest(), done(1, 4))
 
 
 @test
@@ -329,7 +329,7 @@ def frame_that_is_too_long_is_cut(room):
     sender = Sender(port).send_bytes(frame(message(0)) + b"100000 " + b"y" * 70_000)
     sender.half_close().is_ended()
     has(room, parts_of(port, address(sender), 2, b"y" * 65536, 100_000))
-    same("totals", relay.stop(), done(1, 1))
+    same("totals", relay.stop_at_rest(), done(1, 1))
     same("it is told", f"syc: 13 Truncated at {port}" in relay.lines(), True)
 
 
@@ -348,7 +348,7 @@ def long_frames_cut_at_each_place(room):
     for fault in ("12 TooLong", "13 Truncated"):
         often = lambda: sum(1 + int(it or 0) for it in re.findall(rf"(?m)^syc: {fault} at {port}(?:, and (\d+) others)?$", relay.errors()))
         until(f"{fault} is told three times", lambda: often() == 3, came=often)
-    same("totals", relay.stop(), done(6, 8))
+    same("totals", relay.stop_at_rest(), done(6, 8))
 
 
 @test
@@ -363,7 +363,7 @@ def what_is_not_framed_is_kept(room):
         until("it is kept", lambda: room.size("unread") == before + len(wanted), came=lambda: room.read("unread")[before:])
         same("its record", room.read("unread")[before:], wanted)
         until("it is told", lambda: f"11 BadLength at 0 in frame 1, which {hint}; kept in unread" in relay.errors(), came=relay.errors)
-    same("totals", relay.stop(), done(0, 0))
+    same("totals", relay.stop_at_rest(), done(0, 0))
 
 
 @test
@@ -380,4 +380,4 @@ def what_is_not_framed_has_the_fault_that_ends_it(room):
         same("the records", room.read("unread")[before:], wanted)
         until("the end is told", lambda: re.search(rf"^syc: {fault} at {port}(, and \d+ others)?$", relay.errors(), re.M), came=relay.errors)
     room.holds("audit.log", [message(0)] * 6)
-    same("totals", relay.stop(), done(6, 6))
+    same("totals", relay.stop_at_rest(), done(6, 6))

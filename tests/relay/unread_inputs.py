@@ -45,7 +45,7 @@ def done(unread, taken=0):
 def ends(relay, senders, unread, taken=0):
     for it in senders:
         it.end()
-    same("totals", relay.stop(), done(unread, taken))
+    same("totals", relay.stop_at_rest(), done(unread, taken))
 
 
 @test
@@ -82,7 +82,7 @@ def none_is_told_of_an_input_with_a_file(room):
     relay, ports = hub(room, ["one", None])
     send_all(ports[1], messages(3))
     room.holds("audit.log", messages(3))
-    same("totals", relay.stop(), done(0, 3))
+    same("totals", relay.stop_at_rest(), done(0, 3))
     same("the file", room.read("one"), b"")
 
 

@@ -13,7 +13,7 @@ import time
 from archives import lift
 from control import asked
 from peers import Receiver, Sender, message, messages, send_all, split
-from room import Failure, LeftOut, imtcp, main_queue, module, omfile, omfwd, same, test, totals, until
+from room import WAIT, Failure, LeftOut, imtcp, main_queue, module, omfile, omfwd, same, test, totals, until
 from statuses import hub_files
 
 COUNT, MANY = 4, 3000
@@ -42,9 +42,12 @@ def needs_strace(room):
     """Leaves a test out where strace isn't there, or may not answer calls."""
     if shutil.which("strace") is None:
         raise LeftOut("there is no strace (package strace)")
+    words = [*answering(room, "write", "ENOSPC", 1), "echo"]
     try:
-        subprocess.run([*answering(room, "write", "ENOSPC", 1), "echo"], stdin=subprocess.DEVNULL, stdout=subprocess.DEVNULL,
-                       stderr=subprocess.DEVNULL, check=False, timeout=20)
+        # (where its tracer isn't ready after three seconds, strace ends what it watches by an alarm)
+        while subprocess.run(words, stdin=subprocess.DEVNULL, stdout=subprocess.DEVNULL, stderr=subprocess.DEVNULL, check=False,
+                             timeout=WAIT).returncode == -signal.SIGALRM:
+            pass
     except subprocess.TimeoutExpired:
         pass
     if not answered(room):
@@ -78,7 +81,7 @@ def archive_by(room, retries, error, when, failures, wanted):
     same(f"writes that answered {error} ({when})", answered(room), failures)
 
 
-@test(limit=240)
+@test(limit=3600)
 def archive_whose_writes_fail_with_endless_retries(room):
     needs_strace(room)
     for error in OF_FILES:
@@ -87,7 +90,7 @@ def archive_whose_writes_fail_with_endless_retries(room):
         archive_by(room, -1, error, "1+2", COUNT, messages(COUNT))
 
 
-@test(limit=240)
+@test(limit=3600)
 def archive_whose_writes_fail_without_retries(room):
     needs_strace(room)
     for error in OF_FILES:
@@ -166,7 +169,7 @@ def link_by(room, retries, error, when, failures, *wanted):
     same(f"writes that answered {error} ({when})", answered(room), failures)
 
 
-@test(limit=240)
+@test(limit=3600)
 def link_whose_writes_fail_with_endless_retries(room):
     needs_strace(room)
     for error in OF_LINKS:
@@ -176,7 +179,7 @@ def link_whose_writes_fail_with_endless_retries(room):
         link_by(room, -1, error, "1+2", COUNT, [], *([message(it)] for it in range(COUNT)))
 
 
-@test(limit=240)
+@test(limit=3600)
 def link_whose_writes_fail_without_retries(room):
     needs_strace(room)
     for error in OF_LINKS:
@@ -237,7 +240,7 @@ def left_by(room, calls, error, when):
     return status, relay.faults(), found
 
 
-@test(limit=240)
+@test(limit=3600)
 def left_whose_calls_fail_one_by_one(room):
     needs_strace(room)
     # it is made, written in blocks of 64 KiB, opened to be synced, and gets its name; what is whole stays, under the name that it has
@@ -246,7 +249,11 @@ def left_whose_calls_fail_one_by_one(room):
             for error in "ENOSPC", "EIO":
                 is_whole = calls != TO_FILES and (calls, when) != ("openat", 1)
                 wanted = (4, ["syc: write failed"], ["left.new"] if is_whole else [])
-                same(f"{error} at call {when} of {calls}", left_by(room, calls, error, when), wanted)
+                came = left_by(room, calls, error, when)
+                if not came[1]:
+                    # (a stop waits for a second until its last line is printed, and on a busy machine that may not be enough)
+                    came = left_by(room, calls, error, when)
+                same(f"{error} at call {when} of {calls}", came, wanted)
 
 
 @test
@@ -321,7 +328,7 @@ def limit(relay, size):
     resource.prlimit(relay.pid, resource.RLIMIT_FSIZE, (size, resource.RLIM_INFINITY))
 
 
-@test(limit=240)
+@test(limit=3600)
 def lines_cut_at_each_byte_with_endless_retries(room):
     relay, port = cut_archive(room, -1)
     size, line = room.size("audit.log"), len(message(100)) + 1
@@ -337,7 +344,7 @@ def lines_cut_at_each_byte_with_endless_retries(room):
     same("the archive", room.lines("audit.log")[1:], messages(2 * turns, 100))
 
 
-@test(limit=240)
+@test(limit=3600)
 def lines_cut_at_each_byte_without_retries(room):
     relay, port = cut_archive(room, 0)
     size, line, wanted, done = room.size("audit.log"), len(message(100)) + 1, [], 0

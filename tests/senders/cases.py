@@ -12,14 +12,14 @@ import time
 
 import corpus
 from peers import Sender, frame
-from room import LeftOut, Failure, imtcp, is_read, module, omfile, same, test, totals, until
+from room import LeftOut, Failure, imtcp, module, omfile, same, test, totals, until
 from senders import (EXAMPLES, INPUT, LOG4J2, PROTOCOL_23, RSYSLOGD, SOCKET_APPENDER, SYSLOG_APPENDER, SYSLOG_NG, Daemon, Log4j2, Logger,
                      PythonLogging, example)
 from tap import Tap, lacking
 
 TOKEN = re.compile(rb"\{(\d{3}|last)\}|\bq9\d\d\b")
 UNREAD, SECOND = b"[unread@32473 ", b' part="2/2"]'
-LIMIT = 180  # seconds for a test, beside much other work
+LIMIT = 600  # seconds for a test, beside much other work
 QUIET = 1  # seconds in which nothing comes, where no condition tells that all came
 LOGGER = ["logger", "--rfc5424", "--tcp", "--octet-count", "--server", "127.0.0.1"]
 AT_DEFAULTS = "_at_defaults"
@@ -36,7 +36,7 @@ def hub(room, *more, at=None):
 
 def status(relay, port, tap):
     """What `status` says, once all that was sent is read: taken, and unread where there is such a line."""
-    until("the tap has read all", lambda: is_read(tap.port))
+    until("the tap has handed all on", tap.is_empty)
     relay.rests(port)
     relay.is_told(b"status\n", port)
     taken = re.findall(r"(?m)^taken (\d+) lost 0 held 0$", relay.errors())

@@ -1,10 +1,11 @@
 """A tap between a sender and a relay: it hands on what comes, and keeps it."""
 
+import os
 import socket
 import threading
 
 from peers import split
-from room import until
+from room import are_asleep, is_read, until
 
 
 class Tap:
@@ -58,9 +59,13 @@ class Tap:
     def frames(self):
         return [frame for frames, _ in self.streams() for frame in frames]
 
+    def is_empty(self):
+        """Whether all that came is handed on: nothing stands in its socket, and none of its threads has something in its hand."""
+        return is_read(self.port) and are_asleep(os.getpid(), threading.get_native_id()) and is_read(self.port)
+
     def has(self, tokens):
         """Waits until each of these tokens came in some whole frame."""
-        until("the tokens come", lambda: not lacking(self.frames(), tokens), 30, lambda: lacking(self.frames(), tokens))
+        until("the tokens come", lambda: not lacking(self.frames(), tokens), came=lambda: lacking(self.frames(), tokens))
 
 
 def lacking(frames, tokens):
