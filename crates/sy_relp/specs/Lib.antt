@@ -1,0 +1,11 @@
+pub mod Bytes
+pub mod Frames
+pub mod Faults
+pub mod Reading
+pub mod Answers
+pub mod Lists
+pub mod Sessions
+pub mod Links
+pub mod Exchanges
+pub mod Senders
+pub mod internal
