@@ -1,0 +1,11 @@
+pub mod Storage
+pub mod Frames
+pub mod Log
+pub mod Finishes
+pub mod Packing
+pub mod Segment
+pub mod Life
+pub mod Bridge
+pub mod Memory
+pub mod Past
+pub mod internal
