@@ -1,0 +1,4 @@
+pub mod relay
+pub mod steps
+pub mod numbers
+pub mod examples

@@ -1,0 +1,5 @@
+pub mod ExampleFlows
+pub mod JamSound
+pub mod JamRun
+pub mod RoundSteps
+pub mod LossyFlows

@@ -1,0 +1,4 @@
+pub mod Heights
+pub mod Deciding
+pub mod Falling
+pub mod NoCircle

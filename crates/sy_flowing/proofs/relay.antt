@@ -1,0 +1,2 @@
+pub mod DueNumbers
+pub mod Weights

@@ -1,0 +1,4 @@
+pub mod Flowing
+pub mod OwnSteps
+pub mod Heights
+pub mod Jams
