@@ -13,7 +13,7 @@ fn warning(of: Caution, means: &'static str, change: &'static str) -> Code {
 }
 
 /// What is lawful in a site and unwise.
-pub(crate) fn warning_codes() -> [Code; 15] {
+pub(crate) fn warning_codes() -> [Code; 17] {
     [
         warning(
             Caution::NoEffect,
@@ -89,6 +89,16 @@ pub(crate) fn warning_codes() -> [Code; 15] {
             Caution::Bottleneck,
             "a spare action without a queue of its own is before what protected messages need",
             "give it a queue of its own",
+        ),
+        warning(
+            Caution::Jam,
+            "queues may wait for each other in a circle, by posts into queues with queue.workerFlow=\"full\" and by forwards, so that nothing there moves any more",
+            "leave one of these calls or forwards out, or let posts into one of the queues not wait",
+        ),
+        warning(
+            Caution::Round,
+            "a message may go round from list to list without end, by calls and forwards",
+            "leave one of these calls or forwards out for the classes that go round",
         ),
     ]
 }

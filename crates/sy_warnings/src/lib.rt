@@ -4,6 +4,7 @@
 pub mod audit;
 mod bottleneck;
 pub mod cautions;
+mod circles;
 mod coming;
 pub mod endpoint_notes;
 pub mod endpoints;

@@ -3,6 +3,7 @@ ghost use Rattle.std.specs.Prelude.{◌≡◌, ◌++◌, ℕ, List, IfErr, IfOk}
 
 use crate::audit::warn_of_audit;
 use crate::cautions::unreached_relay;
+use crate::circles::warn_of_circles;
 use crate::endpoints::{warn_of_endpoint, warn_of_item_by_outlet};
 use crate::holders::{Holder, holders_of};
 use crate::unwise::warn_of_item;
@@ -54,6 +55,10 @@ pub enum Caution {
     SharedWorker,
     /// A spare action without a queue of its own stands before what protected messages need.
     Bottleneck,
+    /// Queues may wait for each other in a circle.
+    Jam,
+    /// Messages of a class may go round without end.
+    Round,
 }
 
 impl Caution {
@@ -75,6 +80,8 @@ impl Caution {
             Caution::AuditFacility => "AuditFacility",
             Caution::SharedWorker => "SharedWorker",
             Caution::Bottleneck => "Bottleneck",
+            Caution::Jam => "Jam",
+            Caution::Round => "Round",
         }
     }
 }
@@ -162,8 +169,8 @@ fn reached_of(alloc: Global, site: &Site) -> Result<Reached, AllocError> {
     })
 }
 
-// What messages of protected classes may execute of a relay.
-fn kept_of(
+/// What messages of protected classes may execute of a relay.
+pub fn kept_of(
     alloc: Global,
     site: &Site,
     relay: u32,
@@ -263,6 +270,7 @@ fn warn_of_site(
 ) -> Result<(), AllocError> {
     let reached = reached_of(warnings.alloc, site)?;
     warn_of_audit(warnings, site, texts.name, text);
+    warn_of_circles(warnings, texts, site, reached.of_protected.as_slice())?;
     for relay in 0..site.relays() {
         if warnings.is_full() {
             return Ok(());
