@@ -6,6 +6,7 @@ ghost use Rattle.sy_board.specs.relay.Guards.{MayGuard};
 ghost use Rattle.sy_site.specs.Sites.{plan_at};
 ghost use Rattle.sy_inputs.specs.WholeEntries.{KeepsWhole};
 
+mod diff;
 mod examples;
 mod explain;
 mod folder;
@@ -20,6 +21,7 @@ mod usage;
 mod version;
 mod wrong_words;
 
+use diff::{diff_of_words, is_diff};
 use explain::{explain, is_explain};
 use folder::enter_folder;
 use full::{draw_in_full, take_full};
@@ -84,6 +86,10 @@ fn main(rt: HostRuntime) -> ExitCode {
     }
     if is_explain(words.as_slice()) {
         return ExitCode::from(explain(rt.alloc(), words.as_slice(), &mut out));
+    }
+    if is_diff(words.as_slice()) {
+        let files = HostFiles::new(&rt, kinds);
+        return ExitCode::from(diff_of_words(rt.alloc(), words.as_slice(), &files, &mut out));
     }
     if is_unread(words.as_slice()) {
         return ExitCode::from(unread(&rt, words.as_slice(), &mut out));

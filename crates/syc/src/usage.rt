@@ -30,6 +30,9 @@ const METRICS: &str =
 const METRICS_EVERY: &str =
     "Write that file again after so many seconds, in place of 10: 1 to 86400; only with --metrics";
 
+const RENAME: &str =
+    "A relay that has another name after the change: the old one, = and the new one; once for each";
+
 const ANY_FILE: &str = "Read FIFOs and devices too, not regular files alone";
 
 // A parser with the name of a file more. Here and below a parser that couldn't be made is passed on, since a `?` where
@@ -96,6 +99,9 @@ fn with_values<'a>(
 ) -> Result<Parser<'a>, AllocError> {
     if is_word(word, "graph") {
         return with_value(alloc, parser, "class", "CLASS", CLASS);
+    }
+    if is_word(word, "diff") {
+        return with_value(alloc, parser, "rename", "OLD=NEW", RENAME);
     }
     if is_word(word, "run") {
         let parser = with_value(alloc, parser, "left", "FILE", LEFT);

@@ -20,6 +20,21 @@ const EVENTS: &str = "The events, one a line; - is standard input";
 
 const CERT: &str = "The certificate, as certify prints it; - is standard input";
 
+const OLD: &str =
+    "The site file before the change; the files that it names are looked for in its folder";
+
+const NEW: &str = "The same after the change";
+
+const DIFF_BEHIND: &str = "Exit status:
+  0  no worse: each archive of each class, each entry and each whole entry is there still, and nothing new is found
+  1  worse: something of these was lost, or something new is found
+  2  a file is faulty, or the command line is
+  3  out of memory
+  4  a read or a write failed
+
+Example:
+  syc diff --rename hub=center old/site new/site";
+
 const PASS_BEHIND: &str = "Exit status:
   0  all messages were written
   2  the input is faulty, or the command line is
@@ -117,7 +132,7 @@ Examples:
   syc explain SharedWorker";
 
 /// The commands: the word of each, what it does, its names and options with what they mean, and the end of its help.
-pub static COMMANDS: [(&str, &str, &[(&str, &str)], &[(&str, &str)], &str); 9] = [
+pub static COMMANDS: [(&str, &str, &[(&str, &str)], &[(&str, &str)], &str); 10] = [
     (
         "pass",
         "Read messages in octet-counted frames from standard input and write one line a message",
@@ -157,6 +172,13 @@ pub static COMMANDS: [(&str, &str, &[(&str, &str)], &[(&str, &str)], &str); 9] =
         &[("SITE", SITE), ("EVENTS", EVENTS)],
         &[("explain", EXPLAIN), ("json", JSON)],
         REPLAY_BEHIND,
+    ),
+    (
+        "diff",
+        "Say whether a site is worse than the one before a change",
+        &[("OLD", OLD), ("NEW", NEW)],
+        &[],
+        DIFF_BEHIND,
     ),
     (
         "run",

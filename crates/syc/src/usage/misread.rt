@@ -1,15 +1,19 @@
 //! What is wrong with words that clap reads as a command, and that are none.
 
+use crate::diff::rename_of;
 use sy_report::command_line::command::is_word;
 use sy_running::words::{period, seconds};
 
-// What is wrong with a word behind an option that takes a time, if anything is.
-fn wrong_time(option: &str, word: &str) -> Option<&'static str> {
+// What is wrong with a word behind an option that takes a time, or a relay's names, if anything is.
+fn wrong_value(option: &str, word: &str) -> Option<&'static str> {
     if is_word(option, "--drain") && seconds(word.as_bytes()).is_none() {
         return Some("--drain takes decimal digits: 86400 seconds at most");
     }
     if is_word(option, "--metrics-every") && period(word.as_bytes()).is_none() {
         return Some("--metrics-every takes decimal digits: 1 to 86400 seconds");
+    }
+    if is_word(option, "--rename") && rename_of(word).is_none() {
+        return Some("--rename takes the name of a relay before the change, = and the one after it");
     }
     None
 }
@@ -35,7 +39,7 @@ pub(super) fn misread_reason(words: &[&str]) -> &'static str {
         if is_word(word, "--") {
             return "unexpected argument '--' found: write the command's word, its options and its names, without '--'";
         }
-        if let Some(why) = wrong_time(option, word) {
+        if let Some(why) = wrong_value(option, word) {
             return why;
         }
         option = word;

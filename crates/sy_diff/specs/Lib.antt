@@ -1,0 +1,4 @@
+pub mod Changes
+pub mod Comparisons
+pub mod Folders
+pub mod Diffs

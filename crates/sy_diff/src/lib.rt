@@ -1,0 +1,8 @@
+//! What a change of a site loses: its archives, entries and findings beside those of the site before.
+#![tactic(auto)]
+
+pub mod comparison;
+pub mod diff;
+pub mod folder;
+mod same;
+mod telling;
