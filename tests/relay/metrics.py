@@ -1,5 +1,6 @@
 """What is watched of a relay: the file of its metrics, and its status as a JSON document."""
 
+import hashlib
 import json
 import os
 import re
@@ -114,6 +115,10 @@ def metrics_agree_with_status(room):
     found = document(relay)
     same("a document", [found[it] for it in ("format", "command", "relay", "taken", "lost", "held", "queued", "left_out")],
          [1, "status", "hub", 9, 0, 0, 0, 0])
+    digits = hashlib.sha256(b"".join(map(room.read, ("site", "hub.conf")))).hexdigest()
+    said = subprocess.run([room.program, "--version"], stdout=subprocess.PIPE, text=True, check=True).stdout.splitlines()[1:]
+    record = f"{said[0]}, {said[1]}, {said[-1]}" if said[1:] else said[0]
+    same("which files and which program", [found["runs"], found["program"]], [f"site {digits}, 2 files", record])
     same("its input", found["inputs"], [{"port": port, "taken": 9, "open": 1, "accepted": 3, "held": 0, "unread": 2, "lost": 0}])
     same("the same as metrics", [shown[f'input_{it}{{relay="hub",input="{port}"}}'] for it in
                                  ("connections", "connections_accepted_total", "connections_held", "frames_unread_total", "messages_lost_total")],

@@ -132,10 +132,35 @@ fn append_relay(text: &mut Vec<u8>, watched: &Watched<'_>) -> Result<(), AllocEr
     Ok(())
 }
 
-/// What is watched of a relay, as a JSON document in one line, with its line feed.
-pub fn document(alloc: Global, watched: &Watched<'_>) -> Result<Vec<u8>, AllocError> {
+// Appends what a line says behind these words, as a member behind another, where it has them.
+fn append_said(text: &mut Vec<u8>, key: &str, line: &str, words: &str) -> Result<(), AllocError> {
+    match line.split_once(words) {
+        Some((_, said)) => {
+            append_key(text, key)?;
+            append_text(text, said.as_bytes())
+        }
+        None => Ok(()),
+    }
+}
+
+// Appends which files a relay runs, and which program runs it, as lines say it.
+fn append_runs(text: &mut Vec<u8>, lines: &[u8]) -> Result<(), AllocError> {
+    let Ok(lines) = str::from_utf8(lines) else {
+        return Ok(());
+    };
+    for line in lines.lines() {
+        append_said(text, "runs", line, " runs: ")?;
+        append_said(text, "program", line, " program: ")?;
+    }
+    Ok(())
+}
+
+/// What is watched of a relay, as a JSON document in one line, with its line feed. The lines are those that say which files it runs, and
+/// which program runs it.
+pub fn document(alloc: Global, watched: &Watched<'_>, runs: &[u8]) -> Result<Vec<u8>, AllocError> {
     let mut text = Vec::new(alloc);
     append_relay(&mut text, watched)?;
+    append_runs(&mut text, runs)?;
     append_inputs(&mut text, watched)?;
     append_actions(&mut text, watched)?;
     append_queues(&mut text, watched)?;

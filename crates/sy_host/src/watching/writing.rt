@@ -193,7 +193,7 @@ fn document_of<R: Clock, E: Sink + Drop>(
 ) -> Result<Vec<u8>, AllocError> {
     let noted = noted(rt, alloc, serving.log())?;
     let seen = watched(alloc, serving.watch(), noted.all(), moment)?;
-    document(alloc, &seen)
+    document(alloc, &seen, serving.runs())
 }
 
 /// Prints what is watched of a relay, as a JSON document in one line.
