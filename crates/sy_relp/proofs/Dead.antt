@@ -1,9 +1,9 @@
 -- Bytes that a fault is told of begin with no frame, however they go on.
-use Rattle.std.proofs.Common.{◌≡◌, ◌≢◌, ℕ, zero, suc, ◌+◌, ◌<◌, ◌≤◌, List, [], ◌∷◌, ◌++◌, length, refl, sym, ap, ◌∙◌, arith}
+use Rattle.std.proofs.Common.{◌≡◌, ◌≢◌, ℕ, ◌<◌, List, [], ◌∷◌, ◌++◌, length, sym, ap, ◌∙◌, arith}
 use Rattle.std.specs.Fmt.{decimal}
 use Rattle.std.proofs.lemmas.List.{append_assoc}
 use Rattle.sy_relp.specs.Faults.{Faulty, HasHead, IsBadCommand, IsBadLength, IsBadNumber, IsBadTrailer, IsTooLong, length_end}
-use Rattle.sy_relp.specs.Frames.{Frame, IsDead, IsFrame, frame, tail}
+use Rattle.sy_relp.specs.Frames.{Frame, IsDead, IsFrame, frame}
 use Rattle.sy_relp.specs.declared.fault.FrameFault.{FrameFault}
 use Rattle.sy_relp.specs.declared.fault.FrameFault.TheVariants.{BadNumber, BadCommand, BadLength, TooLong, BadTrailer, Truncated, NoMemory, Failed}
 use Rattle.sy_relp.specs.internal.Parts.{closed}

@@ -1,12 +1,12 @@
 -- Bytes that go on to a frame.
-use Rattle.std.proofs.Common.{◌≡◌, ◌≢◌, ℕ, zero, suc, ◌+◌, ◌<◌, ◌≤◌, inl, inr, List, [], ◌∷◌, ◌++◌, length, refl, sym, ap, ◌∙◌, arith}
+use Rattle.std.proofs.Common.{◌≡◌, ◌≢◌, ℕ, zero, suc, ◌<◌, ◌≤◌, inr, List, [], ◌∷◌, ◌++◌, length, refl, sym, ap, ◌∙◌, arith}
 use Rattle.std.specs.Fmt.{decimal}
 use Rattle.std.proofs.lemmas.List.{append-nil, append_assoc}
 use Rattle.sy_relp.specs.Faults.{HasHead, length_end}
 use Rattle.sy_relp.specs.Frames.{Frame, GoesOn, IsCommand, IsFrame, NoFrame, frame}
 use Rattle.sy_relp.specs.internal.Parts.{closed}
 use Rattle.sy_relp.proofs.OneFrame.{one_frame}
-use Rattle.sy_relp.proofs.Whole.{end_of_some, frame_alone, head_more, none_before}
+use Rattle.sy_relp.proofs.Whole.{frame_alone, head_more, none_before}
 
 letter_is_command : IsCommand (97 ∷ [])
 letter_is_command = record { some = omega arith; short = omega arith; letters = (inr (omega arith, omega arith), tt) }

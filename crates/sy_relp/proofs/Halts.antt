@@ -1,15 +1,13 @@
 -- Why no frame is at the front, by the part that isn't there.
-use Rattle.std.proofs.Common.{◌≡◌, ◌≢◌, ℕ, ◌+◌, ◌<◌, ◌≤◌, List, [], ◌∷◌, ◌++◌, length, refl, sym, ap, ◌∙◌, arith}
+use Rattle.std.proofs.Common.{◌≡◌, ℕ, ◌≤◌, List, ◌∷◌, ◌++◌, sym, ap, ◌∙◌, arith}
 use Rattle.std.specs.Fmt.{decimal}
 use Rattle.sy_relp.specs.Faults.{HasHead, length_end}
-use Rattle.sy_relp.specs.Frames.{IsCommand}
-use Rattle.sy_relp.specs.declared.fault.FrameFault.{FrameFault}
 use Rattle.sy_relp.specs.declared.fault.FrameFault.TheVariants.{BadNumber, BadCommand, BadLength, TooLong, BadTrailer, Truncated, NoMemory, Failed}
 use Rattle.sy_relp.specs.declared.parts.Halt.{Halt}
 use Rattle.sy_relp.specs.declared.parts.Halt.TheVariants.{Short, Bad}
 use Rattle.sy_relp.specs.internal.Parts.{CommandHalts, ContentHalts, FrameHalts, LengthHalts, TxnrHalts}
 use Rattle.sy_relp.proofs.Goings.{by_command, by_content, by_length, by_txnr}
-use Rattle.sy_relp.proofs.Whole.{end_of_some, head_of}
+use Rattle.sy_relp.proofs.Whole.{end_of_some}
 
 pub at_txnr : (halt : Halt) (bytes : List ℕ) → TxnrHalts halt bytes → FrameHalts halt bytes
 at_txnr Short bytes g = by_txnr bytes g.1 g.0 g.2 g.3 g.4

@@ -15,4 +15,5 @@ pub mod Readings
 pub mod Heard
 pub mod Written
 pub mod Windows
+pub mod Ends
 pub mod SenderLaws

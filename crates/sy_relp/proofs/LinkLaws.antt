@@ -5,9 +5,7 @@ use Rattle.std.specs.Fmt.{decimal}
 use Rattle.std.specs.List.{AllByRecursion}
 use Rattle.std.proofs.lemmas.List.{append-nil, append_assoc, length-append}
 use Rattle.sy_relp.specs.Frames.{Frame, IsFrame, frame, stream, tail}
-use Rattle.sy_relp.specs.Lists.{Has}
-use Rattle.sy_relp.specs.Links.{Connection, Counts, Delivers, IsTorn, LinkIsTrue, Read, Rises, Took, Wrote}
-use Rattle.sy_relp.specs.Sessions.{Runs, Session}
+use Rattle.sy_relp.specs.Links.{Delivers, IsTorn, LinkIsTrue, Read, Wrote}
 use Rattle.sy_relp.proofs.Lists.{has_front}
 use Rattle.sy_relp.proofs.OneFrame.{one_frame}
 use Rattle.sy_relp.proofs.SessionLaws.{answered_in}

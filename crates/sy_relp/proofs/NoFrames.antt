@@ -1,15 +1,14 @@
 -- Where no number and no command stands.
-use Rattle.std.proofs.Common.{◌≡◌, ◌≢◌, ℕ, zero, suc, ◌+◌, ◌*◌, ◌-◌, ◌<◌, ◌≤◌, ◌⊎◌, inl, inr, List, [], ◌∷◌, ◌++◌, length, get_or, take, drop, refl, sym, ap, ◌∙◌, arith}
+use Rattle.std.proofs.Common.{◌≡◌, ℕ, zero, suc, ◌+◌, ◌<◌, ◌≤◌, inl, inr, List, [], ◌∷◌, ◌++◌, length, get_or, take, drop, refl, sym, ap, ◌∙◌, arith}
 use Rattle.std.specs.List.{AllByRecursion}
-use Rattle.std.specs.Prelude.{Result, Ok, Err, OnErr}
 use Rattle.std.specs.Fmt.{decimal}
 use Rattle.std.proofs.lemmas.Fmt.{decimal_digit, decimal_is_IsNumeral, decimal_nonempty, first_decimal}
-use Rattle.std.proofs.lemmas.List.{append_assoc, drop_more, length-append, take_more, take-append-drop, take_all}
+use Rattle.std.proofs.lemmas.List.{append_assoc, drop_more, length-append, take-append-drop, take_all}
 use Rattle.sy_wire.specs.Characters.{IsDigit}
-use Rattle.sy_relp.specs.Frames.{Frame, IsCommand, IsFrame, IsLetter, NoFrame, body, frame, stream, tail}
-use Rattle.sy_relp.proofs.Digits.{Digits, digits_from_all, front_digits, first_of, none, more, one_front, only_digits, space_is_none, value_le}
+use Rattle.sy_relp.specs.Frames.{Frame, IsFrame, IsLetter, NoFrame, frame, stream}
+use Rattle.sy_relp.proofs.Digits.{Digits, digits_from_all, front_digits, first_of, more, only_digits, value_le}
 use Rattle.sy_relp.proofs.Numbers.{HasNumber}
-use Rattle.sy_relp.proofs.OneFrame.{digits_of, feed_is_none, frame_then, one_frame, one_number, one_word}
+use Rattle.sy_relp.proofs.OneFrame.{digits_of, one_frame}
 
 -- what the parts of a frame are not
 abbrev pub NoNumber : ℕ → List ℕ → Type 0

@@ -3,15 +3,14 @@ use Rattle.std.proofs.Common.{◌≡◌, ◌≢◌, ℕ, zero, suc, ◌+◌, ◌
 use Rattle.std.specs.List.{AllByRecursion}
 use Rattle.std.specs.Fmt.{decimal}
 use Rattle.std.proofs.lemmas.Fmt.{decimal_digit, decimal_step}
-use Rattle.std.proofs.lemmas.List.{append_assoc, drop_at, length-append, take_more, take-append-drop}
+use Rattle.std.proofs.lemmas.List.{drop_at, length-append, take_more, take-append-drop}
 use Rattle.std.specs.Prelude.{Bool, slice_range, false}
 use Rattle.sy_wire.specs.Frames.{Held}
 use Rattle.sy_wire.proofs.Rooms.{length_range, range_after}
 use Rattle.sy_wire.specs.Characters.{IsDigit}
-use Rattle.sy_relp.specs.Frames.{Frame, IsCommand, IsFrame, IsLetter, body, frame, tail}
+use Rattle.sy_relp.specs.Frames.{Frame, IsLetter, frame}
 use Rattle.sy_relp.specs.Reading.{FrameAt, Gives}
 use Rattle.sy_relp.proofs.Lists.{all_append}
-use Rattle.sy_relp.proofs.OneFrame.{frame_then}
 
 -- the first i bytes are the digits of n, without leading zeros
 abbrev pub HasNumber : List ℕ → ℕ → ℕ → Type 0

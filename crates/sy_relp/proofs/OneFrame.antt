@@ -1,12 +1,12 @@
 -- The frame that bytes begin with is one.
-use Rattle.std.proofs.Common.{◌≡◌, ◌≢◌, ℕ, ◌+◌, ◌-◌, ◌<◌, ◌≤◌, inl, inr, List, [], ◌∷◌, ◌++◌, length, get_or, take, length-append, drop, refl, sym, ap, ◌∙◌, arith}
+use Rattle.std.proofs.Common.{◌≡◌, ℕ, ◌<◌, ◌≤◌, inl, inr, List, [], ◌∷◌, ◌++◌, length, refl, sym, ap, ◌∙◌, arith}
 use Rattle.std.specs.List.{AllByRecursion}
 use Rattle.std.specs.Fmt.{decimal}
-use Rattle.std.proofs.lemmas.Fmt.{decimal_is_IsNumeral, decimal_injective, decimal_nonempty}
-use Rattle.std.proofs.lemmas.List.{append-nil, append_assoc}
+use Rattle.std.proofs.lemmas.Fmt.{decimal_is_IsNumeral, decimal_injective}
+use Rattle.std.proofs.lemmas.List.{append_assoc}
 use Rattle.sy_wire.specs.Characters.{IsDigit}
-use Rattle.sy_relp.proofs.Digits.{Digits, none, more, digits_from_all, one_front, space_is_none}
-use Rattle.sy_relp.specs.Frames.{Frame, GoesOn, IsCommand, IsDead, IsFrame, IsLetter, body, frame, stream, tail}
+use Rattle.sy_relp.proofs.Digits.{Digits, digits_from_all, one_front, space_is_none}
+use Rattle.sy_relp.specs.Frames.{Frame, IsFrame, IsLetter, frame, tail}
 
 pub digits_of : (n : ℕ) → n < 10000000000 → Digits (decimal n)
 digits_of n small = let numeral = decimal_is_IsNumeral n (omega arith) in digits_from_all (decimal n) numeral.0.1

@@ -1,13 +1,13 @@
 -- What a run of a session has answered was taken and acknowledged.
-use Rattle.std.proofs.Common.{◌≡◌, ◌≢◌, ℕ, ◌<◌, Bool, true, false, List, [], ◌∷◌, ◌++◌, refl, sym, ap, ◌∙◌, subst, arith, inl, inr}
+use Rattle.std.proofs.Common.{◌≡◌, ℕ, ◌<◌, true, List, [], ◌∷◌, ◌++◌, refl, sym, ap, ◌∙◌, arith}
 use Rattle.std.specs.Prelude.{codes}
 use Rattle.std.specs.List.{AllByRecursion}
-use Rattle.std.proofs.lemmas.List.{append-nil, append_assoc}
+use Rattle.std.proofs.lemmas.List.{append-nil}
 use Rattle.sy_relp.specs.Frames.{Frame}
 use Rattle.sy_relp.specs.Answers.{answer_to, rsp, syslog}
 use Rattle.sy_relp.specs.Lists.{Has}
 use Rattle.sy_relp.specs.Links.{AcknowledgedWasTaken, AnsweredWasTaken, Rises}
-use Rattle.sy_relp.specs.Sessions.{Acknowledges, Answers, Ends, Receives, IsKind, Runs, Session, TakesUp, outcome_of, done_at_once, fresh, taken, starts, receives, acknowledges, answers}
+use Rattle.sy_relp.specs.Sessions.{Acknowledges, Answers, Ends, IsKind, Runs, Session, TakesUp, outcome_of, done_at_once, taken, starts, receives, acknowledges, answers}
 use Rattle.sy_relp.specs.declared.session.Kind.{Kind}
 use Rattle.sy_relp.specs.declared.session.Kind.TheVariants.{Open, Message, Close, Other}
 use Rattle.sy_relp.specs.declared.session.Outcome.{Outcome}

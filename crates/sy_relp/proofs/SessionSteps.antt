@@ -1,11 +1,11 @@
 -- What the functions of a session see.
 use Rattle.std.proofs.Math.ListN.{set}
-use Rattle.std.proofs.Common.{◌≡◌, ◌≢◌, ℕ, zero, suc, below_more, get_or, ◌+◌, ◌<◌, ◌≤◌, Bool, true, false, List, [], ◌∷◌, ◌++◌, length, length-append, take, drop, refl, sym, ap, ◌∙◌, arith}
-use Rattle.std.specs.Prelude.{codes, Option, Some, None, slice_get}
+use Rattle.std.proofs.Common.{◌≡◌, ◌≢◌, ℕ, zero, suc, below_more, get_or, ◌+◌, ◌<◌, ◌≤◌, true, List, [], ◌∷◌, ◌++◌, length, length-append, take, drop, refl, sym, ap, ◌∙◌, arith}
+use Rattle.std.specs.Prelude.{codes, Some, slice_get}
 use Rattle.std.specs.Fmt.{decimal}
 use Rattle.std.proofs.lemmas.Fmt.{decimal_digit, decimal_step}
 use Rattle.std.proofs.lemmas.List.{take_at, take-append-drop}
-use Rattle.sy_relp.specs.Frames.{Frame, body, frame}
+use Rattle.sy_relp.specs.Frames.{body, frame}
 use Rattle.sy_relp.specs.Answers.{answer_to, offers, rsp}
 use Rattle.sy_relp.specs.declared.session.Stage.{Stage}
 use Rattle.sy_relp.specs.Sessions.{Answers, Session, HasVersion}

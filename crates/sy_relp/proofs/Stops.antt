@@ -1,16 +1,16 @@
 -- Why a part of a frame isn't there.
-use Rattle.std.proofs.Common.{◌≡◌, ◌≢◌, ℕ, zero, suc, ◌+◌, ◌*◌, ◌-◌, ◌<◌, ◌≤◌, ◌⊎◌, inl, inr, List, [], ◌∷◌, ◌++◌, length, get_or, take, drop, refl, sym, ap, ◌∙◌, subst, arith}
+use Rattle.std.proofs.Common.{◌≡◌, ◌≢◌, ℕ, zero, suc, ◌+◌, ◌*◌, ◌-◌, ◌<◌, ◌≤◌, ◌⊎◌, inl, inr, List, [], ◌∷◌, ◌++◌, length, get_or, take, drop, refl, sym, ap, ◌∙◌, arith}
 use Rattle.std.specs.List.{AllByRecursion}
 use Rattle.std.specs.Fmt.{decimal}
 use Rattle.std.proofs.lemmas.Fmt.{decimal_digit, decimal_nonempty, first_decimal}
-use Rattle.std.proofs.lemmas.List.{append-nil, append_assoc, drop_more, length-append, take-append-drop, take_all}
+use Rattle.std.proofs.lemmas.List.{append_assoc, drop_more, length-append, take-append-drop, take_all}
 use Rattle.sy_wire.specs.Characters.{IsDigit}
 use Rattle.sy_relp.specs.Faults.{IsBadNumber, IsLong, NeverCommand, NeverLength, length_end}
-use Rattle.sy_relp.specs.Frames.{IsCommand, IsLetter}
-use Rattle.sy_relp.specs.internal.Parts.{CommandGoesOn, ContentHalts, EndsDigits, LengthGoesOn, NeverNumber, NotGreat, TxnrGoesOn}
+use Rattle.sy_relp.specs.Frames.{IsLetter}
+use Rattle.sy_relp.specs.internal.Parts.{CommandGoesOn, EndsDigits, LengthGoesOn, NeverNumber, NotGreat, TxnrGoesOn}
 use Rattle.sy_relp.proofs.Digits.{begins_digit, first_of, front_digits, space_is_none, value_le}
 use Rattle.sy_relp.proofs.Goings.{noughts, length_noughts}
-use Rattle.sy_relp.proofs.NoFrames.{NoNumber, at_byte, digits_wide, no_digit_here, no_great_number, no_leading_zero, run_long, run_stops}
+use Rattle.sy_relp.proofs.NoFrames.{digits_wide, no_digit_here, no_leading_zero, run_long, run_stops}
 use Rattle.sy_relp.proofs.Numbers.{HasNumber}
 use Rattle.sy_relp.proofs.OneFrame.{digits_of, one_number}
 use Rattle.sy_relp.proofs.Whole.{end_is_no_digit, get_front, take_front}

@@ -1,11 +1,10 @@
 -- A frame by its parts, and what more bytes change.
-use Rattle.std.proofs.Common.{◌≡◌, ◌≢◌, ℕ, zero, suc, ◌+◌, ◌<◌, ◌≤◌, ◌⊎◌, inl, inr, List, [], ◌∷◌, ◌++◌, length, get_or, take, drop, refl, sym, ap, ◌∙◌, arith}
+use Rattle.std.proofs.Common.{◌≡◌, ℕ, zero, suc, ◌<◌, ◌≤◌, List, [], ◌∷◌, ◌++◌, length, get_or, take, refl, sym, ap, ◌∙◌, arith}
 use Rattle.std.specs.Fmt.{decimal}
-use Rattle.std.proofs.lemmas.Fmt.{decimal_digit}
-use Rattle.std.proofs.lemmas.List.{append-nil, append_assoc, length-append}
+use Rattle.std.proofs.lemmas.List.{append-nil, append_assoc}
 use Rattle.sy_wire.specs.Characters.{IsDigit}
 use Rattle.sy_relp.specs.Faults.{HasHead, length_end}
-use Rattle.sy_relp.specs.Frames.{Frame, IsCommand, IsFrame, body, frame, tail}
+use Rattle.sy_relp.specs.Frames.{Frame, IsCommand, body, frame, tail}
 use Rattle.sy_relp.specs.Reading.{FrameAt}
 use Rattle.sy_relp.specs.internal.Parts.{closed}
 use Rattle.sy_relp.proofs.Digits.{space_is_none}

@@ -1,14 +1,14 @@
 -- One window after the other.
-use Rattle.std.proofs.Common.{◌≡◌, ℕ, ◌+◌, ◌<◌, ◌≤◌, ◌⊎◌, inl, inr, Bool, true, false, List, [], ◌∷◌, ◌++◌, length, take, drop, refl, sym, ap, ◌∙◌, subst, arith, take-add}
+use Rattle.std.proofs.Common.{◌≡◌, ℕ, ◌+◌, ◌-◌, ◌<◌, ◌≤◌, ◌⊎◌, inl, inr, Bool, true, false, List, [], ◌++◌, length, take, drop, refl, sym, ap, ◌∙◌, subst, arith, take-add}
 use Rattle.std.specs.Prelude.{Option}
 use Rattle.std.specs.List.{AllByRecursion}
-use Rattle.std.specs.Io.KnownBytes.{Appends, Keeps}
-use Rattle.std.proofs.KnownBytes.{Appends-kept, Appends-nil, Appends-trans}
+use Rattle.std.specs.Io.KnownBytes.{Appends}
+use Rattle.std.proofs.KnownBytes.{Appends-nil, Appends-trans}
 use Rattle.std.proofs.lemmas.List.{append-nil, append_assoc, length-append, length-take-le, take_all, take-append-drop}
 use Rattle.sy_wire.specs.Frames.{Held}
 use Rattle.sy_wire.specs.Messages.{Said}
-use Rattle.sy_relp.specs.Frames.{Frame, IsFrame, frame, stream}
-use Rattle.sy_relp.specs.Exchanges.{AreAnswers, Breaks, Exchanges, Link, numbered}
+use Rattle.sy_relp.specs.Frames.{IsFrame, stream}
+use Rattle.sy_relp.specs.Exchanges.{Breaks, Exchanges, Link, numbered}
 use Rattle.sy_relp.specs.internal.Streams.{HearsUpTo}
 use Rattle.sy_relp.proofs.Heard.{answers_more, fed_nothing, hears_more, hears_none}
 use Rattle.sy_relp.proofs.Written.{bytes_append, bytes_front, each_then, take_over}
@@ -32,6 +32,7 @@ module _ {R W : Type 0} (remaining : R → Option (List ℕ)) (contents : W → 
     size = refl;
     next = omega arith;
     stays = refl;
+    no_more = refl;
     unless = inl refl;
   }
 
@@ -53,15 +54,16 @@ module _ {R W : Type 0} (remaining : R → Option (List ℕ)) (contents : W → 
     within = some;
     counted = omega arith;
     after = inr (refl, omega arith, refl, refl);
+    waits = inl refl;
     unless = λ b. (refl, refl, b);
   }
 
   -- a front was written, and nothing heard
-  pub torn : (old : Link R W) (ms : List Said) (reader : R) (writer writer' : W) (held : Held) (next next' sent : ℕ) (broken : Bool) (front rest : List ℕ)
-      → record { reader = reader; writer = writer; held = held; next = next; is_broken = broken } ≡ old → broken ≡ false → 0 < length ms → AllByRecursion IsFrame (numbered next (take sent ms)) → stream (numbered next (take sent ms)) ≡ front ++ rest → Appends (contents writer) (contents writer') front
-      → Breaks remaining contents old ms 0 (record { reader = reader; writer = writer'; held = held; next = next'; is_broken = true })
-  torn old ms reader writer writer' held next next' sent broken front rest view good some each whole wrote =
-      subst (λ (o : Link R W). Breaks remaining contents o ms 0 (record { reader = reader; writer = writer'; held = held; next = next'; is_broken = true })) view
+  pub torn : (old : Link R W) (ms : List Said) (reader : R) (writer writer' : W) (held : Held) (next next' waiting sent : ℕ) (broken : Bool) (front rest : List ℕ)
+      → record { reader = reader; writer = writer; held = held; next = next; unanswered = waiting; is_broken = broken } ≡ old → broken ≡ false → 0 < length ms → AllByRecursion IsFrame (numbered next (take sent ms)) → stream (numbered next (take sent ms)) ≡ front ++ rest → Appends (contents writer) (contents writer') front
+      → Breaks remaining contents old ms 0 (record { reader = reader; writer = writer'; held = held; next = next'; unanswered = waiting; is_broken = true })
+  torn old ms reader writer writer' held next next' waiting sent broken front rest view good some each whole wrote =
+      subst (λ (o : Link R W). Breaks remaining contents o ms 0 (record { reader = reader; writer = writer'; held = held; next = next'; unanswered = waiting; is_broken = true })) view
       (record {
         sent = sent;
         rest = rest;
@@ -78,17 +80,18 @@ module _ {R W : Type 0} (remaining : R → Option (List ℕ)) (contents : W → 
         within = some;
         counted = omega arith;
         after = inl refl;
+        waits = inl refl;
         unless = λ b. absurd (apart broken good b);
       })
 
   -- all was written, and not all was answered
-  pub unanswered : (old : Link R W) (ms : List Said) (reader reader' : R) (writer writer' : W) (held held' : Held) (next next' sent count : ℕ) (broken : Bool)
-      → record { reader = reader; writer = writer; held = held; next = next; is_broken = broken } ≡ old → broken ≡ false → sent ≤ length ms → count < sent → AllByRecursion IsFrame (numbered next (take sent ms)) → Appends (contents writer) (contents writer') (stream (numbered next (take sent ms)))
+  pub unanswered : (old : Link R W) (ms : List Said) (reader reader' : R) (writer writer' : W) (held held' : Held) (next waiting sent count : ℕ) (broken : Bool)
+      → record { reader = reader; writer = writer; held = held; next = next; unanswered = waiting; is_broken = broken } ≡ old → broken ≡ false → sent ≤ length ms → count < sent → AllByRecursion IsFrame (numbered next (take sent ms)) → Appends (contents writer) (contents writer') (stream (numbered next (take sent ms)))
       → HearsUpTo (remaining reader) (remaining reader') held.left held'.left next sent count
-      → Breaks remaining contents old ms count (record { reader = reader'; writer = writer'; held = held'; next = next'; is_broken = true })
-  unanswered old ms reader reader' writer writer' held held' next next' sent count broken view good fits less each wrote h =
-      let front = bytes_front next ms count sent (omega (arith, less)) fits in
-      subst (λ (o : Link R W). Breaks remaining contents o ms count (record { reader = reader'; writer = writer'; held = held'; next = next'; is_broken = true })) view
+      → Breaks remaining contents old ms count (record { reader = reader'; writer = writer'; held = held'; next = next + sent; unanswered = sent - count; is_broken = true })
+  unanswered old ms reader reader' writer writer' held held' next waiting sent count broken view good fits less each wrote h =
+      let front = bytes_front next ms count sent (omega (arith, less)) in
+      subst (λ (o : Link R W). Breaks remaining contents o ms count (record { reader = reader'; writer = writer'; held = held'; next = next + sent; unanswered = sent - count; is_broken = true })) view
       (record {
         sent = sent;
         rest = [];
@@ -105,21 +108,22 @@ module _ {R W : Type 0} (remaining : R → Option (List ℕ)) (contents : W → 
         within = omega (arith, less, fits);
         counted = omega (arith, less);
         after = inl refl;
+        waits = inr (refl, refl, omega (arith, less));
         unless = λ b. absurd (apart broken good b);
       })
 
   -- all was written, and answered
-  pub answered : (old : Link R W) (ms : List Said) (reader reader' : R) (writer writer' : W) (held held' : Held) (next sent count : ℕ) (broken : Bool)
-      → record { reader = reader; writer = writer; held = held; next = next; is_broken = broken } ≡ old → broken ≡ false → sent ≤ length ms → sent ≤ count → AllByRecursion IsFrame (numbered next (take sent ms)) → Appends (contents writer) (contents writer') (stream (numbered next (take sent ms)))
+  pub answered : (old : Link R W) (ms : List Said) (reader reader' : R) (writer writer' : W) (held held' : Held) (next waiting sent count : ℕ) (broken : Bool)
+      → record { reader = reader; writer = writer; held = held; next = next; unanswered = waiting; is_broken = broken } ≡ old → broken ≡ false → sent ≤ length ms → sent ≤ count → AllByRecursion IsFrame (numbered next (take sent ms)) → Appends (contents writer) (contents writer') (stream (numbered next (take sent ms)))
       → HearsUpTo (remaining reader) (remaining reader') held.left held'.left next sent count
-      → Exchanges remaining contents old (take sent ms) (record { reader = reader'; writer = writer'; held = held'; next = next + sent; is_broken = false })
-  answered old ms reader reader' writer writer' held held' next sent count broken view good fits enough each wrote h =
+      → Exchanges remaining contents old (take sent ms) (record { reader = reader'; writer = writer'; held = held'; next = next + sent; unanswered = waiting; is_broken = false })
+  answered old ms reader reader' writer writer' held held' next waiting sent count broken view good fits enough each wrote h =
       let same : count ≡ sent = omega (arith, enough, h.within) in
       let heard : length h.heard ≡ count = h.no_more same in
       let size : length (take sent ms) ≡ sent = length-take-le sent ms fits in
       let all : take count h.heard ≡ h.heard = take_all count h.heard (omega (arith, heard)) in
-      subst (λ (o : Link R W). Exchanges remaining contents o (take sent ms) (record { reader = reader'; writer = writer'; held = held'; next = next + sent; is_broken = false })) view
-      (record { each = each; wrote = wrote; heard = h.heard; hears = h.hears; answers = rw all at h.answers; size = omega (arith, heard, same, size); next = omega (arith, size); stays = sym good; unless = inr good })
+      subst (λ (o : Link R W). Exchanges remaining contents o (take sent ms) (record { reader = reader'; writer = writer'; held = held'; next = next + sent; unanswered = waiting; is_broken = false })) view
+      (record { each = each; wrote = wrote; heard = h.heard; hears = h.hears; answers = rw all at h.answers; size = omega (arith, heard, same, size); next = omega (arith, size); stays = sym good; no_more = refl; unless = inr good })
 
   pub whole_then_whole : (old mid new : Link R W) (xs ys : List Said) → Exchanges remaining contents old xs mid → Exchanges remaining contents mid ys new → Exchanges remaining contents old (xs ++ ys) new
   whole_then_whole old mid new xs ys a b = record {
@@ -131,6 +135,7 @@ module _ {R W : Type 0} (remaining : R → Option (List ℕ)) (contents : W → 
     size = length-append a.heard b.heard ∙ (let s : length a.heard + length b.heard ≡ length xs + length ys = omega (arith, a.size, b.size) in s) ∙ sym (length-append xs ys);
     next = omega (arith, a.next, b.next, length-append xs ys);
     stays = b.stays ∙ a.stays;
+    no_more = b.no_more ∙ a.no_more;
     unless = both_or old.is_broken mid.is_broken xs ys a.stays a.unless b.unless;
   }
 
@@ -158,6 +163,10 @@ module _ {R W : Type 0} (remaining : R → Option (List ℕ)) (contents : W → 
         after = elim b.after [
           | inl broken ↦ inl broken
           | inr rest ↦ inr (rest.0, omega (arith, rest.1, a.next), length-append a.heard b.heard ∙ (let k : length a.heard + length b.heard ≡ length xs + n = omega (arith, a.size, rest.2) in k), rest.3 ∙ a.stays)
+        ];
+        waits = elim b.waits [
+          | inl same ↦ inl (same ∙ a.no_more)
+          | inr out ↦ inr (out.0, omega (arith, out.1, a.next), omega (arith, out.2))
         ];
         unless = λ broken. elim a.unless [
           | inl none ↦

@@ -1,13 +1,13 @@
 -- The frames of messages, numbered.
-use Rattle.std.proofs.Common.{◌≡◌, ◌≢◌, ℕ, inl, inr, zero, suc, ◌+◌, ◌-◌, ◌<◌, ◌≤◌, List, [], ◌∷◌, ◌++◌, length, get_or, map, take, drop, length-drop, refl, sym, ap, ◌∙◌, arith, take-add}
-use Rattle.std.proofs.lemmas.List.{append-nil, append_assoc, get_or-map, length-map, length-take-le, take_all, take-append-drop, take_more}
+use Rattle.std.proofs.Common.{◌≡◌, ◌≢◌, ℕ, inr, suc, ◌+◌, ◌-◌, ◌<◌, ◌≤◌, List, [], ◌∷◌, ◌++◌, length, get_or, map, take, drop, length-drop, sym, ap, ◌∙◌, arith, take-add}
+use Rattle.std.proofs.lemmas.List.{append-nil, get_or-map, length-map, length-take-le, take_all, take-append-drop, take_more}
 use Rattle.std.proofs.lemmas.List.Concat.{flat_map-append}
 use Rattle.sy_wire.specs.Messages.{Said}
 use Rattle.std.specs.List.{AllByRecursion}
 use Rattle.std.specs.Prelude.{Option, codes}
 use Rattle.std.specs.Io.KnownBytes.{Appends, Keeps}
 use Rattle.std.proofs.KnownBytes.{Appends-kept}
-use Rattle.sy_relp.specs.Frames.{Frame, IsCommand, IsFrame, frame, stream}
+use Rattle.sy_relp.specs.Frames.{IsCommand, IsFrame, frame, stream}
 use Rattle.sy_relp.proofs.Lists.{all_append}
 use Rattle.sy_relp.specs.Answers.{syslog}
 use Rattle.sy_relp.specs.Exchanges.{numbered}
@@ -68,8 +68,8 @@ each_next t ys k m within next number size all =
     rw next (each_append t (take k ys) (m ∷ []) all (last, tt))
 
 -- the frames of the first of some
-pub bytes_front : (t : ℕ) (ys : List Said) (count sent : ℕ) → count ≤ sent → sent ≤ length ys → (more : List ℕ) × (stream (numbered t (take sent ys)) ≡ stream (numbered t (take count ys)) ++ more)
-bytes_front t ys count sent le within =
+pub bytes_front : (t : ℕ) (ys : List Said) (count sent : ℕ) → count ≤ sent → (more : List ℕ) × (stream (numbered t (take sent ys)) ≡ stream (numbered t (take count ys)) ++ more)
+bytes_front t ys count sent le =
     let size : sent ≡ count + (sent - count) = omega (arith, le) in (
       stream (numbered (t + length (take count ys)) (take (sent - count) (drop count ys))),
       ap (λ n. stream (numbered t (take n ys))) size ∙ ap (λ z. stream (numbered t z)) (take-add count (sent - count) ys) ∙ bytes_append t (take count ys) (take (sent - count) (drop count ys)),

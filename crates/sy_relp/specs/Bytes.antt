@@ -1,5 +1,5 @@
 -- Bytes that frames name.
-use Rattle.std.specs.Prelude.{ℕ, ◌≤◌}
+use Rattle.std.specs.Prelude.{ℕ}
 
 abbrev pub space : ℕ
 space = 32

@@ -1,5 +1,5 @@
 -- Why bytes begin with no frame, however they go on: its first part, from the left, that is none.
-use Rattle.std.specs.Prelude.{◌≡◌, ◌≢◌, ℕ, zero, suc, ◌<◌, ◌≤◌, List, [], ◌∷◌, ◌++◌, length}
+use Rattle.std.specs.Prelude.{◌≡◌, ◌≢◌, ℕ, zero, suc, ◌<◌, ◌≤◌, List, ◌∷◌, ◌++◌, length}
 use Rattle.std.specs.Fmt.{decimal}
 use Rattle.sy_relp.specs.Bytes.{line_feed, space}
 use Rattle.sy_relp.specs.Frames.{IsCommand, MAX_CONTENT, MAX_TXNR}

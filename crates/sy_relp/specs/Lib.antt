@@ -7,5 +7,6 @@ pub mod Lists
 pub mod Sessions
 pub mod Links
 pub mod Exchanges
+pub mod Closings
 pub mod Senders
 pub mod internal

@@ -1,5 +1,5 @@
 -- A receiver's session, as steps.
-use Rattle.std.specs.Prelude.{◌≡◌, ◌≢◌, ℕ, ◌<◌, ◌≤◌, ◌⊎◌, Bool, true, false, List, [], ◌∷◌, ◌++◌, codes, length}
+use Rattle.std.specs.Prelude.{◌≡◌, ◌≢◌, ℕ, ◌<◌, Bool, true, false, List, [], ◌∷◌, ◌++◌, codes}
 use Rattle.sy_relp.specs.Frames.{Frame}
 use Rattle.sy_relp.specs.Answers.{answer_to, rsp}
 use Rattle.sy_relp.specs.declared.session.Kind.{Kind}

@@ -24,7 +24,7 @@ pub enum FrameFault {
 /// Why a sender sent no more. But for `NoMemory` and `TooLong` it has to be renewed.
 #[derive(Clone, Copy, PartialEq, Eq)]
 pub enum SendFault {
-    /// A session broke before, or its numbers end.
+    /// A session broke or was closed before, or its numbers end.
     Broken,
     /// There was no memory for a window.
     NoMemory,

@@ -1,6 +1,7 @@
 //! RELP, the wire of links that acknowledge: frames, a receiver's session, a sender's, and the law of the two.
 #![tactic(auto)]
 
+mod closing;
 pub mod fault;
 pub mod frame;
 mod hear;

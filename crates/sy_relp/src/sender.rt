@@ -1,9 +1,11 @@
 //! A sender, which counts a message as taken only once its receiver acknowledged it.
-ghost use Rattle.std.specs.Prelude.{◌≡◌, ◌+◌, ◌<◌, ◌≤◌, false, length, map, take, true, IfNone, IfOk, OnErr, OnOk, OnSome};
+ghost use Rattle.std.specs.Prelude.{◌≡◌, ◌+◌, ◌<◌, ◌≤◌, false, length, map, take, true, IfNone, IfOk, IfSome, OnErr, OnOk, OnSome};
 ghost use Rattle.std.specs.Arc.{arc_value};
 ghost use Rattle.sy_relp.specs.Exchanges.{Breaks, Exchanges};
+ghost use Rattle.sy_relp.specs.Closings.{CloseFails, Closes};
 ghost use Rattle.sy_relp.specs.Senders.{Opens};
 
+use crate::closing::{close_text, hear_end};
 use crate::fault::SendFault;
 use crate::frame::RelpFrame;
 use crate::hear::hear;
@@ -27,16 +29,21 @@ pub struct Sender<R: Drop, W: Drop> {
     frames: Reader,
     answer: RelpFrame,
     next: u32,
+    // how many messages are out and weren't answered in time, the last ones
+    unanswered: u32,
     is_broken: bool,
     room: Vec<u8>,
 }
 
 impl<R: Drop, W: Drop> Model for Sender<R, W> {
+    ghost use Rattle.std.specs.Prelude.{◌≤◌};
     ghost use Rattle.sy_relp.specs.Exchanges.{Link};
 
     ghost Value = { Link R W };
 
-    ghost view = { λ s. record { reader = s.reader; writer = s.writer; held = s.frames; next = s.next; is_broken = s.is_broken } };
+    ghost view = { λ s. record { reader = s.reader; writer = s.writer; held = s.frames; next = s.next; unanswered = s.unanswered; is_broken = s.is_broken } };
+
+    ghost invariant = { λ s. (s.unanswered ≤ s.next) × (s.next ≤ 999999998) };
 }
 
 impl<R: Source + Drop, W: Sink + Drop> Sender<R, W> {
@@ -60,6 +67,7 @@ impl<R: Source + Drop, W: Sink + Drop> Sender<R, W> {
                 frames,
                 answer,
                 next: 2,
+                unanswered: 0,
                 is_broken: false,
                 room: Vec::new(alloc),
             }),
@@ -70,9 +78,10 @@ impl<R: Source + Drop, W: Sink + Drop> Sender<R, W> {
     /// Opens a session over new streams, and lets the old ones go. At a fault the sender is broken.
     pub fn renew(&mut self, reader: R, writer: W) -> Result<(), SendFault>
         ensures ok { OnOk result (Opens R.remaining W.contents reader writer self.new) }
-        ensures err { OnErr result (self.new.is_broken ≡ true) }
+        ensures err { OnErr result ((self.new.is_broken ≡ true) × (self.new.unanswered ≡ 0)) }
     {
         self.is_broken = true;
+        self.unanswered = 0;
         self.reader = reader;
         self.writer = writer;
         self.frames = Reader::new(self.alloc);
@@ -91,7 +100,7 @@ impl<R: Source + Drop, W: Sink + Drop> Sender<R, W> {
         }
     }
 
-    /// Whether a session broke, and none was opened since: every message is answered with a fault then.
+    /// Whether a session broke or was closed, and none was opened since: every message is answered with a fault then.
     pub fn is_broken(&self) -> bool
         ensures { result ≡ self.now.is_broken }
     {
@@ -102,6 +111,7 @@ impl<R: Source + Drop, W: Sink + Drop> Sender<R, W> {
     fn exchange(&mut self, messages: &[Arc<Message>]) -> (u32, Option<SendFault>)
         requires { 0 < length messages.now }
         ensures some { OnSome result.1 (Breaks R.remaining W.contents self.old (map arc_value messages.now) result.0 self.new) }
+        ensures waits { IfSome result.1 (λ fault. fault ≡ SendFault.Unanswered → 0 < self.new.unanswered) }
         ensures none { IfNone result.1 ((0 < result.0) × (result.0 ≤ length messages.now)
             × Exchanges R.remaining W.contents self.old (take result.0 (map arc_value messages.now)) self.new) }
     {
@@ -134,6 +144,7 @@ impl<R: Source + Drop, W: Sink + Drop> Sender<R, W> {
             sent,
         );
         if count < sent {
+            self.unanswered = sent - count;
             return (count, Some(SendFault::Unanswered));
         }
         self.is_broken = false;
@@ -145,6 +156,7 @@ impl<R: Source + Drop, W: Sink + Drop> Sender<R, W> {
         ensures all { IfNone result.1 (result.0 ≡ length messages.now) }
         ensures none { IfNone result.1 (Exchanges R.remaining W.contents self.old (map arc_value messages.now) self.new) }
         ensures some { OnSome result.1 (Breaks R.remaining W.contents self.old (map arc_value messages.now) result.0 self.new) }
+        ensures waits { IfSome result.1 (λ fault. fault ≡ SendFault.Unanswered → 0 < self.new.unanswered) }
     {
         let mut taken = 0;
         while taken < messages.len() {
@@ -156,5 +168,39 @@ impl<R: Source + Drop, W: Sink + Drop> Sender<R, W> {
             }
         }
         (taken, None)
+    }
+
+    /// Ends the session: writes a close, and waits for the answers that are still out and for that to the close. Answers how many of the last
+    /// messages were acknowledged, behind those that `send_all` counted, and the fault, if there was one. Nothing is sent after it.
+    pub fn close(&mut self) -> (usize, Option<SendFault>)
+        ensures none { IfNone result.1 (Closes R.remaining W.contents self.old result.0 self.new) }
+        ensures some { IfSome result.1 (λ fault. CloseFails R.remaining W.contents self.old fault result.0 self.new) }
+    {
+        if self.is_broken && self.unanswered == 0 {
+            return (0, Some(SendFault::Broken));
+        }
+        let (txnr, waiting) = (self.next, self.unanswered);
+        let Ok(text) = close_text(self.alloc, txnr) else {
+            return (0, Some(SendFault::NoMemory));
+        };
+        self.is_broken = true;
+        self.unanswered = 0;
+        let Ok(()) = write_all(&mut self.writer, text.as_bytes()) else {
+            return (0, Some(SendFault::WriteFailed));
+        };
+        let Ok(()) = self.writer.flush() else {
+            return (0, Some(SendFault::WriteFailed));
+        };
+        let (count, is_over) = hear_end(
+            &mut self.reader,
+            &mut self.frames,
+            &mut self.answer,
+            txnr,
+            waiting,
+        );
+        if !is_over {
+            return (count as usize, Some(SendFault::Unanswered));
+        }
+        (count as usize, None)
     }
 }

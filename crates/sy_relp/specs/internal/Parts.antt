@@ -3,9 +3,8 @@ use Rattle.std.specs.Prelude.{◌≡◌, ◌≢◌, ℕ, ◌+◌, ◌*◌, ◌<�
 use Rattle.std.specs.Fmt.{decimal}
 use Rattle.sy_wire.specs.Characters.{IsDigit}
 use Rattle.sy_relp.specs.Faults.{Faulty, IsBadNumber, IsLong, NeverCommand, NeverLength, length_end}
-use Rattle.sy_relp.specs.Frames.{Frame, GoesOn, IsCommand, IsFrame, frame}
-use Rattle.sy_relp.specs.declared.fault.FrameFault.{FrameFault}
-use Rattle.sy_relp.specs.declared.fault.FrameFault.TheVariants.{BadNumber, BadCommand, BadLength, TooLong, BadTrailer, Truncated, NoMemory, Failed}
+use Rattle.sy_relp.specs.Frames.{GoesOn, IsCommand}
+use Rattle.sy_relp.specs.declared.fault.FrameFault.TheVariants.{BadNumber, BadCommand, BadLength, TooLong, BadTrailer}
 use Rattle.sy_relp.specs.declared.parts.Halt.{Halt}
 use Rattle.sy_relp.specs.declared.parts.Halt.TheVariants.{Short, Bad}
 use Rattle.sy_relp.specs.declared.parts.NumberStop.{NumberStop}

@@ -1,5 +1,5 @@
 use Rattle.std.proofs.Common.{[], ◌∷◌, arith}
-use Rattle.sy_relp.proofs.Heard.{all_heard, so_far_more, so_far_none, up_to}
+use Rattle.sy_relp.proofs.Heard.{so_far_more, up_to}
 use Rattle.sy_relp.proofs.hear.hear.Goals as goal
 
 pub returns-then-not-next_frame : goal.returns-then-not-next_frame

@@ -1,4 +1,4 @@
-use Rattle.std.proofs.Common.{◌≡◌, ◌≤◌, ◌-◌, length, take}
+use Rattle.std.proofs.Common.{◌≤◌, ◌-◌, length, take}
 use Rattle.std.specs.List.{AllByRecursion}
 use Rattle.sy_relp.specs.Frames.{IsLetter}
 use Rattle.sy_relp.proofs.parts.command_at.Given as goal

@@ -1,4 +1,4 @@
-use Rattle.std.proofs.Common.{◌≡◌, ◌≤◌, ◌<◌, [], ◌∷◌, ◌++◌, length, arith, refl}
+use Rattle.std.proofs.Common.{arith}
 use Rattle.sy_relp.proofs.Stops.{all_but_the_end, content_short}
 use Rattle.sy_relp.proofs.parts.content_at.Goals as goal
 

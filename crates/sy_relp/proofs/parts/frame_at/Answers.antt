@@ -1,5 +1,5 @@
 use Rattle.sy_relp.proofs.Halts.{at_command, at_content, at_length, at_txnr}
-use Rattle.sy_relp.proofs.Whole.{frame_is, head_of}
+use Rattle.sy_relp.proofs.Whole.{head_of}
 use Rattle.sy_relp.proofs.parts.frame_at.Goals as goal
 
 pub returns-in-Err-clause-err : goal.returns-in-Err-clause-err

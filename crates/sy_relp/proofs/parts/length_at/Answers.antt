@@ -1,4 +1,4 @@
-use Rattle.std.proofs.Common.{◌≡◌, ◌≤◌, length, arith, ap, ◌∙◌}
+use Rattle.std.proofs.Common.{arith}
 use Rattle.sy_relp.proofs.Stops.{bad_end, length_short, not_great_read, not_long}
 use Rattle.sy_relp.proofs.parts.length_at.Goals as goal
 

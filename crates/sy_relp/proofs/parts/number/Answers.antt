@@ -1,4 +1,4 @@
-use Rattle.std.proofs.Common.{arith, ◌≡◌, ◌+◌, ◌-◌, ◌*◌, ◌≤◌, get_or, ◌<◌, ◌≢◌, refl}
+use Rattle.std.proofs.Common.{arith, ◌+◌, ◌-◌, ◌*◌, get_or, ◌<◌, ◌≢◌, refl}
 use Rattle.sy_wire.specs.Characters.{IsDigit}
 use Rattle.sy_relp.proofs.Numbers.{number_more, number_text}
 use Rattle.sy_relp.proofs.Stops.{all_digits, great, never_first, never_zero, not_great_first, not_great_zero}

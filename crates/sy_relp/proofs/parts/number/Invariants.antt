@@ -1,4 +1,4 @@
-use Rattle.std.proofs.Common.{◌≡◌, ◌≤◌, ◌-◌, length}
+use Rattle.std.proofs.Common.{◌≤◌, ◌-◌, length}
 use Rattle.sy_relp.proofs.Numbers.{HasNumber}
 use Rattle.sy_relp.proofs.parts.number.Given as goal
 

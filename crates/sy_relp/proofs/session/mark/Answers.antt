@@ -1,4 +1,4 @@
-use Rattle.std.proofs.Common.{◌≡◌, ◌<◌, length, get_or, ◌∙◌, sym, refl, arith, subst, ap}
+use Rattle.std.proofs.Common.{◌≡◌, ◌<◌, length, get_or, ◌∙◌, sym, arith, ap}
 use Rattle.sy_relp.specs.internal.Marks.{undone}
 use Rattle.sy_relp.proofs.SessionSteps.{marks_none, marks_one, one_more_none}
 use Rattle.sy_relp.proofs.session.mark.Goals as goal

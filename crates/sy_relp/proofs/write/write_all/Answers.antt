@@ -1,4 +1,4 @@
-use Rattle.std.proofs.Common.{◌∙◌, arith}
+use Rattle.std.proofs.Common.{arith}
 use Rattle.sy_wire.proofs.Held.{appends_more}
 use Rattle.sy_relp.proofs.Written.{writes_front, writes_whole}
 use Rattle.sy_relp.proofs.write.write_all.Goals as goal

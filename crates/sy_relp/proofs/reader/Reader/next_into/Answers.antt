@@ -1,4 +1,4 @@
-use Rattle.std.proofs.Common.{◌≡◌, ◌∙◌, refl, sym, ap}
+use Rattle.std.proofs.Common.{refl}
 use Rattle.sy_relp.proofs.OneFrame.{same_fields}
 use Rattle.sy_relp.proofs.Numbers.{gives_frame}
 use Rattle.sy_relp.proofs.Readings.{stops_at}

@@ -1,8 +1,7 @@
-use Rattle.std.proofs.Common.{◌≡◌, ◌<◌, ◌≤◌, List, ℕ, [], length, map, take, ◌∙◌, sym, ap, subst, arith}
+use Rattle.std.proofs.Common.{◌≡◌, ◌<◌, ◌≤◌, [], length, map, take, ◌∙◌, sym, subst, arith}
 use Rattle.std.proofs.lemmas.List.{append-nil, length-map}
 use Rattle.std.proofs.KnownBytes.{Appends-kept}
 use Rattle.std.specs.Arc.{arc_value}
-use Rattle.std.specs.Io.KnownBytes.{Appends}
 use Rattle.sy_relp.specs.Frames.{stream}
 use Rattle.sy_relp.specs.Exchanges.{Breaks, Link, numbered}
 use Rattle.sy_relp.proofs.Windows.{answered, refused, torn, unanswered}
@@ -34,7 +33,7 @@ pub returns-in_default-write_all-clause-some : goal.returns-in_default-write_all
 returns-in_default-write_all-clause-some g c =
     let some : 0 < length (map arc_value c.args.messages.now) = omega (arith, c.requires, length-map c.args.messages.now (λ x. arc_value x)) in
     let t = c.in_default-write_all.ensures.torn in
-    torn g.R.Source.remaining g.W.Sink.contents c.args.self.now _ c.self.inside.reader c.self.inside.writer _ c.self.inside.frames c.self.inside.next _ c.in-Ok.sent c.self.inside.is_broken t.front t.is_front.rest c.self.view_is c.if-self.false some c.in-Ok.ensures.each
+    torn g.R.Source.remaining g.W.Sink.contents c.args.self.now _ c.self.inside.reader c.self.inside.writer _ c.self.inside.frames c.self.inside.next _ c.self.inside.unanswered c.in-Ok.sent c.self.inside.is_broken t.front t.is_front.rest c.self.view_is c.if-self.false some c.in-Ok.ensures.each
     (sym c.in-Ok.ensures.frames ∙ sym c.as_slice.ensures.value ∙ t.is_front.joined) t.wrote
 
 pub returns-in_default-flush-clause-some : goal.returns-in_default-flush-clause-some
@@ -43,7 +42,7 @@ returns-in_default-flush-clause-some g c =
     let all = stream (numbered c.self.inside.next (take c.in-Ok.sent (map arc_value c.args.messages.now))) in
     let text : c.as_slice.result.now ≡ all = c.as_slice.ensures.value ∙ c.in-Ok.ensures.frames in
     let wrote = rw text at (Appends-kept _ _ _ c.as_slice.result.now c.in-Ok-write_all.ensures.whole c.flush.ensures.bytes) in
-    torn g.R.Source.remaining g.W.Sink.contents c.args.self.now _ c.self.inside.reader c.self.inside.writer _ c.self.inside.frames c.self.inside.next _ c.in-Ok.sent c.self.inside.is_broken all [] c.self.view_is c.if-self.false some c.in-Ok.ensures.each (sym (append-nil all)) wrote
+    torn g.R.Source.remaining g.W.Sink.contents c.args.self.now _ c.self.inside.reader c.self.inside.writer _ c.self.inside.frames c.self.inside.next _ c.self.inside.unanswered c.in-Ok.sent c.self.inside.is_broken all [] c.self.view_is c.if-self.false some c.in-Ok.ensures.each (sym (append-nil all)) wrote
 
 pub returns-then-count-sent-clause-some : goal.returns-then-count-sent-clause-some
 returns-then-count-sent-clause-some g c =
@@ -51,7 +50,7 @@ returns-then-count-sent-clause-some g c =
     let all = stream (numbered c.self.inside.next (take c.in-Ok.sent (map arc_value c.args.messages.now))) in
     let text : c.as_slice.result.now ≡ all = c.as_slice.ensures.value ∙ c.in-Ok.ensures.frames in
     let wrote = rw text at (Appends-kept _ _ _ c.as_slice.result.now c.in-Ok-write_all.ensures.whole c.flush.ensures.bytes) in
-    unanswered g.R.Source.remaining g.W.Sink.contents c.args.self.now _ c.self.inside.reader _ c.self.inside.writer _ c.self.inside.frames _ c.self.inside.next _ c.in-Ok.sent _ c.self.inside.is_broken c.self.view_is c.if-self.false fits c.if-count-sent.true c.in-Ok.ensures.each wrote c.hear-count.ensures
+    unanswered g.R.Source.remaining g.W.Sink.contents c.args.self.now _ c.self.inside.reader _ c.self.inside.writer _ c.self.inside.frames _ c.self.inside.next c.self.inside.unanswered c.in-Ok.sent _ c.self.inside.is_broken c.self.view_is c.if-self.false fits c.if-count-sent.true c.in-Ok.ensures.each wrote c.hear-count.ensures
 
 pub returns-clause-none : goal.returns-clause-none
 returns-clause-none g c =
@@ -61,5 +60,5 @@ returns-clause-none g c =
     let wrote = rw text at (Appends-kept _ _ _ c.as_slice.result.now c.in-Ok-write_all.ensures.whole c.flush.ensures.bytes) in (
       omega (arith, c.if-sent-eq0.false),
       c.in-Ok.ensures.within,
-      answered g.R.Source.remaining g.W.Sink.contents c.args.self.now _ c.self.inside.reader _ c.self.inside.writer _ c.self.inside.frames _ c.self.inside.next c.in-Ok.sent _ c.self.inside.is_broken c.self.view_is c.if-self.false fits c.if-count-sent.false c.in-Ok.ensures.each wrote c.hear-count.ensures,
+      answered g.R.Source.remaining g.W.Sink.contents c.args.self.now _ c.self.inside.reader _ c.self.inside.writer _ c.self.inside.frames _ c.self.inside.next c.self.inside.unanswered c.in-Ok.sent _ c.self.inside.is_broken c.self.view_is c.if-self.false fits c.if-count-sent.false c.in-Ok.ensures.each wrote c.hear-count.ensures,
     )

@@ -1,7 +1,6 @@
-use Rattle.std.proofs.Common.{◌≡◌, ◌<◌, true, ◌∷◌, ◌∙◌, drop, length, get_or, sym, ap, refl, arith, rules}
+use Rattle.std.proofs.Common.{◌≡◌, ◌<◌, true, length, sym, rules}
 use Rattle.sy_relp.specs.Answers.{answer_to, rsp}
-use Rattle.sy_relp.specs.Sessions.{Session}
-use Rattle.sy_relp.proofs.SessionSteps.{first_of, answers_first}
+use Rattle.sy_relp.proofs.SessionSteps.{answers_first}
 use Rattle.sy_relp.proofs.session.Receiver.next_answer.Goals as goal
 
 pub returns-clause-yes : goal.returns-clause-yes
