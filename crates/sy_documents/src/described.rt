@@ -1,11 +1,12 @@
 //! The parts of a JSON document: classes, findings, faults, warnings and losses.
 
-use crate::json_objects::{Elements, Members};
 use memchr::memchr;
 use std::alloc::{AllocError, Global};
 use sy_findings::notes::explanation::note_of_finding;
 use sy_findings::notes::instances::{finding_of as finding_of_instance, note_of_instance};
 use sy_findings::verdicts::instances::Instance;
+use sy_json::classes::class_names;
+use sy_json::objects::{Elements, Members};
 use sy_places::site_file::texts::SiteTexts;
 use sy_places::ways::followed_lists::circle;
 use sy_places::ways::relay_parts::{name_of_list, spot_at};
@@ -17,17 +18,6 @@ use sy_site::{Site, SiteAction, SiteInput};
 use sy_warnings::warnings::Warning;
 use sy_wire::Class;
 use sy_wire::numbers::number_up_to;
-
-/// Classes by their names.
-pub fn class_names(alloc: Global, classes: &[Class]) -> Result<Elements, AllocError> {
-    let mut names = Elements::new(alloc);
-    for class in classes {
-        let mut name = Vec::new(alloc);
-        append_parts(&mut name, &[Part::Class(*class)])?;
-        names.text(name.as_slice());
-    }
-    Ok(names)
-}
 
 // The two words of a number with a name, as `42 Unknown`; of words without a number nothing, and all of them.
 fn cut_number(words: &[u8]) -> (Option<u64>, &[u8]) {
@@ -97,8 +87,15 @@ fn insert_input(members: &mut Members, site: &Site, input: SiteInput) {
     members.number("port", u64::from(port_of(site, input)));
 }
 
-// An action by its relay and name.
-fn action_of(alloc: Global, site: &Site, action: SiteAction) -> Members {
+/// An input by its relay and port.
+pub fn input_of(alloc: Global, site: &Site, input: SiteInput) -> Members {
+    let mut members = Members::new(alloc);
+    insert_input(&mut members, site, input);
+    members
+}
+
+/// An action by its relay and name.
+pub fn action_of(alloc: Global, site: &Site, action: SiteAction) -> Members {
     let mut members = Members::new(alloc);
     members.text("relay", relay_name(site, action.relay));
     members.text("action", action_name(site, action));
@@ -213,6 +210,17 @@ fn insert_occurrence(alloc: Global, members: &mut Members, site: &Site, instance
         }
         _ => members.null("occurrence"),
     }
+}
+
+/// An instance as a finding among all of a site, without what is said of it.
+pub fn instance_of(alloc: Global, site: &Site, instance: &Instance) -> Result<Members, AllocError> {
+    let mut members = Members::new(alloc);
+    insert_kind(&mut members, instance.kind.words().as_bytes());
+    members.array("classes", class_names(alloc, instance.classes.as_slice())?);
+    insert_input(&mut members, site, instance.input);
+    insert_archive(alloc, &mut members, site, instance.kind);
+    insert_occurrence(alloc, &mut members, site, instance);
+    Ok(members)
 }
 
 /// All findings of a site, each of all its classes.

@@ -1,15 +1,14 @@
 //! The JSON documents of the commands over a site: what a command says with `--json` in place of its text.
 
-use crate::described::{
-    all_findings, class_names, first_finding, spare_elements, warning_elements,
-};
-use crate::json_objects::{Elements, Members};
+use crate::described::{all_findings, first_finding, spare_elements, warning_elements};
 use crate::reported::{Replayed, fault_element, losses_in, with_others};
 use std::alloc::{AllocError, Global};
 use sy_checker::survey;
 use sy_faults::all_faults::other_faults;
 use sy_findings::verdicts::instances::instances_of;
 use sy_findings::verdicts::verdict::WrongRow;
+use sy_json::classes::class_names;
+use sy_json::objects::{Elements, Members};
 use sy_places::site_file::texts::SiteTexts;
 use sy_places::ways::executed::protected_classes;
 use sy_report::command_line::options::Options;

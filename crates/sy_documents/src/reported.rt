@@ -1,10 +1,10 @@
 //! The faults and losses of a JSON document, by the lines that are printed of them.
 
 use crate::described::{insert_kind, insert_note, number_of};
-use crate::json_objects::{Elements, Members};
 use std::alloc::{AllocError, Global};
 use sy_fault_notes::fault_note::note_of_fault;
 use sy_faults::faults_with_notes::ReportedFault;
+use sy_json::objects::{Elements, Members};
 use sy_places::site_file::texts::SiteTexts;
 use sy_report::outcome::halt::{Halt, report_halt};
 use sy_report::texts::note::Note;

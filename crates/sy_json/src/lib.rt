@@ -1,0 +1,5 @@
+//! JSON documents, put together member by member.
+#![tactic(auto)]
+
+pub mod classes;
+pub mod objects;
