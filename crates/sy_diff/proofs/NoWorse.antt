@@ -1,23 +1,20 @@
 -- What an empty comparison shows.
-use Rattle.std.proofs.Common.{◌≡◌, ℕ, Bool, true, not, List, [], ◌∷◌, refl, sym, subst, ap, arith, ◌&&◌, ◌∙◌}
+use Rattle.std.proofs.Common.{◌≡◌, true, not, List, [], ◌∷◌, refl, sym, subst, arith, ◌&&◌, ◌∙◌}
 use Rattle.std.specs.Prelude.{Contains}
 use Rattle.std.specs.List.{list_all, list_any}
 use Rattle.sy_wire.specs.declared.class.Class.{Class}
 use Rattle.sy_site.specs.declared.site.SiteAction.{SiteAction}
 use Rattle.sy_site.specs.declared.site.SiteInput.{SiteInput}
-use Rattle.sy_site.specs.declared.finding.Kind.{Kind}
 use Rattle.sy_site.specs.Sites.{Site, archives, asks_for, is_protected, is_whole}
 use Rattle.sy_site.specs.machine.Findings.{IsFinding, Kind as AnyKind, WayRow}
 use Rattle.sy_site.specs.machine.Lawful.{IsLawful}
 use Rattle.sy_site.specs.machine.Soundness.{IsSound}
 use Rattle.sy_site.proofs.lemmas.sites.Archives.{named}
-use Rattle.sy_checker.specs.Survey.{Names}
 use Rattle.sy_checker.specs.declared.kinds.groups.Group.{Group}
 use Rattle.sy_checker.proofs.Reporting.{none_sound, sound_none}
-use Rattle.sy_findings.specs.Instances.{Tells}
 use Rattle.sy_findings.specs.declared.verdicts.instances.Instance.{Instance}
 use Rattle.sy_diff.specs.Changes.{IsNoWorse, WasFoundBefore, is_same_action, is_same_class, is_same_input, is_same_instance, is_told, is_whole_after, lost_archives, new_classes}
-use Rattle.sy_diff.specs.Comparisons.{AreLostArchives, AreNew, IsComparison, archives_in, is_empty as is_empty_comparison, is_nothing, with_classes}
+use Rattle.sy_diff.specs.Comparisons.{AreLostArchives, IsComparison, archives_in, is_empty as is_empty_comparison, is_nothing, with_classes}
 use Rattle.sy_diff.specs.declared.comparison.Comparison.{Comparison}
 use Rattle.sy_diff.specs.declared.same.Change.{Change}
 use Rattle.sy_diff.proofs.Lists.{any_there, both, each_nothing, is_empty, none_passes, not_false, second, some_passes}

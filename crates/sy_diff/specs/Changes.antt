@@ -1,6 +1,6 @@
 -- What is lost from one site to another (this profile's own). Parts of two sites are the same where they have the same names: an input its relay's and its
 -- port, an action its relay's and its own. A relay may have got another name.
-use Rattle.std.specs.Prelude.{◌≡◌, ℕ, Bool, true, false, ◌==◌, ◌&&◌, not, List, [], ◌∷◌, Option, Some, None, Contains, filter, if◌then◌else◌, map}
+use Rattle.std.specs.Prelude.{◌≡◌, ℕ, Bool, true, false, ◌==◌, ◌&&◌, not, List, [], ◌∷◌, Option, Some, None, Contains, filter, if◌then◌else◌}
 use Rattle.std.specs.List.{list_any}
 use Rattle.std.specs.Str.{bytes_eq}
 use Rattle.sy_wire.specs.declared.class.Class.{Class}

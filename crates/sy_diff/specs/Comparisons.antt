@@ -1,5 +1,5 @@
 -- What a comparison of two sites says (this profile's own).
-use Rattle.std.specs.Prelude.{◌≡◌, ℕ, Bool, true, false, ◌&&◌, List, [], ◌∷◌, Option, map}
+use Rattle.std.specs.Prelude.{◌≡◌, Bool, true, false, ◌&&◌, List, [], ◌∷◌, Option, map}
 use Rattle.std.specs.List.{list_all}
 use Rattle.sy_wire.specs.declared.class.Class.{Class}
 use Rattle.sy_rules.specs.declared.lists.occurrence.Occurrence.{Occurrence}

@@ -1,12 +1,13 @@
 //! The command that says whether a site is worse than the one before.
-ghost use Rattle.std.specs.Prelude.{◌≡◌, ◌≢◌, ◌≤◌, IfOk, true};
+ghost use Rattle.std.specs.Prelude.{◌≡◌, ◌≢◌, ◌≤◌, ◌⊎◌, IfErr, IfOk, true, false};
 ghost use Rattle.std.specs.Io.KnownBytes.{Keeps};
 ghost use Rattle.sy_diff.specs.Diffs as spec;
 
-use crate::comparison::{Change, Rename, compare, empty_comparisons_are_no_worse};
+use crate::comparison::{Change, Comparison, Rename, compare, empty_comparisons_are_no_worse};
+use crate::document::documented;
 use crate::folder::{FilesIn, Place, place_of};
 use crate::telling::told;
-use std::alloc::Global;
+use std::alloc::{AllocError, Global};
 use sy_places::site_file::site::{ReadSite, read_site};
 use sy_report::outcome::answer::{Answer, print, stop};
 use sy_report::outcome::halt::Halt;
@@ -23,6 +24,8 @@ pub struct Wanted<'a> {
     pub old: &'a str,
     pub new: &'a str,
     pub renames: &'a [Rename<'a>],
+    /// Whether a JSON document is printed.
+    pub is_json: bool,
 }
 
 // Why there is no comparison: the site file whose site isn't one, where it is of a file, and why.
@@ -35,6 +38,7 @@ struct Stop<'a> {
 // The site of a site file; the files that it names are looked for in its folder.
 fn site_of<'a, F: Files>(alloc: Global, files: &F, path: &'a str) -> Result<Site, Stop<'a>>
     ensures ok { IfOk result (λ site. spec.IsSiteAt F.bytes_of files.now path.now site) }
+    ensures err { IfErr result (λ stop. spec.IsNoSiteAt F.bytes_of files.now path.now stop.halt) }
 {
     let Place { folder, name } = place_of(path);
     let files = FilesIn {
@@ -52,9 +56,23 @@ fn site_of<'a, F: Files>(alloc: Global, files: &F, path: &'a str) -> Result<Site
     }
 }
 
-// What is said of a change.
-fn said(alloc: Global, change: Change<'_>) -> Result<Answer, Halt>
-    ensures { IfOk result (λ a. a.is_accepted ≡ true → spec.IsKept change.entry) }
+// What is said of a change, in lines or as a document.
+fn text_of(
+    alloc: Global,
+    change: Change<'_>,
+    comparison: &Comparison,
+    is_json: bool,
+) -> Result<Vec<u8>, AllocError> {
+    if is_json {
+        return documented(alloc, change, comparison);
+    }
+    told(alloc, change, comparison)
+}
+
+// The same, and whether the change is accepted.
+fn said(alloc: Global, change: Change<'_>, is_json: bool) -> Result<Answer, Halt>
+    ensures ok { IfOk result (λ a. spec.IsJudged change.entry a.is_accepted) }
+    ensures err { IfErr result (λ halt. halt ≡ Halt.NoMemory) }
 {
     empty_comparisons_are_no_worse();
     sound_sites_are_safe();
@@ -62,7 +80,7 @@ fn said(alloc: Global, change: Change<'_>) -> Result<Answer, Halt>
     let Ok(comparison) = compare(alloc, change) else {
         return Err(Halt::NoMemory);
     };
-    match told(alloc, change, &comparison) {
+    match text_of(alloc, change, &comparison, is_json) {
         Ok(text) => Ok(Answer {
             text,
             is_accepted: comparison.is_empty(),
@@ -73,7 +91,8 @@ fn said(alloc: Global, change: Change<'_>) -> Result<Answer, Halt>
 
 // The same of two site files.
 fn answer_of<'a, F: Files>(alloc: Global, files: &F, wanted: Wanted<'a>) -> Result<Answer, Stop<'a>>
-    ensures { IfOk result (λ a. a.is_accepted ≡ true → spec.IsNoWorseAt F.bytes_of files.now wanted.entry) }
+    ensures ok { IfOk result (λ a. spec.IsJudgedAt F.bytes_of files.now wanted.entry a.is_accepted) }
+    ensures err { IfErr result (λ stop. (stop.halt ≡ Halt.NoMemory) ⊎ spec.LackASite F.bytes_of files.now wanted.entry stop.halt) }
 {
     let old = site_of(alloc, files, wanted.old)?;
     let new = site_of(alloc, files, wanted.new)?;
@@ -82,7 +101,7 @@ fn answer_of<'a, F: Files>(alloc: Global, files: &F, wanted: Wanted<'a>) -> Resu
         new: &new,
         renames: wanted.renames,
     };
-    match said(alloc, change) {
+    match said(alloc, change, wanted.is_json) {
         Ok(answer) => Ok(answer),
         Err(halt) => Err(Stop { file: None, halt }),
     }
@@ -96,7 +115,9 @@ pub fn diff<F: Files, W: Sink, E: Sink>(
     wanted: Wanted<'_>,
     out: &mut Outputs<W, E>,
 ) -> u8
-    ensures no_worse { result ≡ 0 → spec.IsNoWorseAt F.bytes_of files.now wanted.entry }
+    ensures no_worse { result ≡ 0 → spec.IsJudgedAt F.bytes_of files.now wanted.entry true }
+    ensures worse { result ≡ 1 → spec.IsJudgedAt F.bytes_of files.now wanted.entry false }
+    ensures faulty { result ≡ 2 → spec.AreFaulty F.bytes_of files.now wanted.entry }
     ensures status { result ≤ 4 }
     ensures none_failed { result ≢ 4 → out.new.output.faults ≡ out.old.output.faults }
 {

@@ -3,6 +3,8 @@
 
 pub mod comparison;
 pub mod diff;
+mod differences;
+mod document;
 pub mod folder;
 mod same;
 mod telling;

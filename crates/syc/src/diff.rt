@@ -19,6 +19,7 @@ use sy_wire::Sink;
 struct Words<'a> {
     names: Vec<&'a str>,
     renames: Vec<Rename<'a>>,
+    is_json: bool,
 }
 
 /// Whether the words, those after the program's name, begin with that command.
@@ -43,6 +44,7 @@ fn words_of<'a>(alloc: Global, args: &[&'a str]) -> Result<Option<Words<'a>>, Al
     let mut names = Vec::new(alloc);
     let mut renames = Vec::new(alloc);
     let mut is_rename = false;
+    let mut is_json = false;
     for word in args {
         if is_rename {
             let Some(rename) = rename_of(word) else {
@@ -52,6 +54,8 @@ fn words_of<'a>(alloc: Global, args: &[&'a str]) -> Result<Option<Words<'a>>, Al
             is_rename = false;
         } else if is_word(word, "--rename") {
             is_rename = true;
+        } else if is_word(word, "--json") && !is_json {
+            is_json = true;
         } else if is_plain(word) {
             names.push(*word)?;
         } else {
@@ -61,7 +65,11 @@ fn words_of<'a>(alloc: Global, args: &[&'a str]) -> Result<Option<Words<'a>>, Al
     if is_rename || names.len() != 2 {
         return Ok(None);
     }
-    Ok(Some(Words { names, renames }))
+    Ok(Some(Words {
+        names,
+        renames,
+        is_json,
+    }))
 }
 
 /// Compares the sites of the two site files that the words name, and answers the exit status: 0 no worse, 1 worse, 2 a faulty file or
@@ -83,7 +91,13 @@ pub fn diff_of_words<W: Sink, E: Sink, F: Files>(
         return out_of_memory(&mut out.errors);
     };
     match words {
-        Some(Words { names, renames }) => {
+        Some(
+            Words {
+                names,
+                renames,
+                is_json,
+            },
+        ) => {
             let (Some(old), Some(new)) = (names.first(), names.get(1)) else {
                 return refuse(alloc, out, &refusal(alloc, all.as_slice()));
             };
@@ -91,6 +105,7 @@ pub fn diff_of_words<W: Sink, E: Sink, F: Files>(
                 old: *old,
                 new: *new,
                 renames: renames.as_slice(),
+                is_json,
             };
             diff(alloc, files, wanted, out)
         }
