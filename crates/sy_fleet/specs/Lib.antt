@@ -1,0 +1,4 @@
+pub mod Includes
+pub mod Modules
+pub mod Statements
+pub mod internal

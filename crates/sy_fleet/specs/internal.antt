@@ -1,0 +1,4 @@
+pub mod Actions
+pub mod Inputs
+pub mod Queues
+pub mod Tests
