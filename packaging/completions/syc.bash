@@ -56,7 +56,7 @@ _syc_look() {
         elif [[ $it =~ ^[0-9\&]*[\<\>] || ! $ended && $it == -?* ]]; then
             case $it in
             --) ended=1 ;;
-            --class | --rename | --left | --unread | --drain | --metrics | --metrics-every) wanted=$it ;;
+            --class | --rename | --protect | --root | --left | --unread | --drain | --metrics | --metrics-every) wanted=$it ;;
             esac
         else
             places=$((places + 1))
@@ -95,7 +95,7 @@ _syc_offer_classes() {
 _syc_offer_values() {
     case $1 in
     --class) _syc_offer_classes "$2" ;;
-    --left | --unread | --metrics | '>') _syc_offer_files ;;
+    --root | --left | --unread | --metrics | '>') _syc_offer_files ;;
     esac
 }
 
@@ -104,7 +104,8 @@ _syc_offer_options() {
     case $1 in
     check) _syc_offer --explain --all --json --strict --any-file ;;
     certify | verify | replay) _syc_offer --explain --json --any-file ;;
-    diff) _syc_offer --rename --any-file ;;
+    diff) _syc_offer --rename --json --any-file ;;
+    survey) _syc_offer --protect --root --strict --json --sarif --any-file ;;
     graph) _syc_offer --full --class --any-file ;;
     unread) _syc_offer --repair ;;
     syc-run) _syc_offer --resend ;;&
@@ -138,10 +139,10 @@ _syc() {
         _syc_offer_options "$command"
     else
         case $command-$places in
-        -0 | help-0) _syc_offer pass check certify verify replay diff run unread graph explain help ;;
+        -0 | help-0) _syc_offer pass check certify verify replay diff survey run unread graph explain help ;;
         explain-0) _syc_offer kind ;;
         run-1 | syc-run-1) _syc_offer_relays ;;
-        *-0 | verify-1 | replay-1 | diff-1) if [[ $command != pass && $command != explain ]]; then _syc_offer_files; fi ;;
+        *-0 | verify-1 | replay-1 | diff-1 | survey-*) if [[ $command != pass && $command != explain ]]; then _syc_offer_files; fi ;;
         esac
     fi
 }

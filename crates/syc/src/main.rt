@@ -15,6 +15,7 @@ mod laws;
 mod prepare;
 mod run;
 mod strict;
+mod survey;
 mod taking;
 mod unread;
 mod usage;
@@ -37,6 +38,7 @@ use std::sync::{Arc, Wait};
 use std::thread::Threads;
 use std::time::Clock;
 use strict::{refuse_warnings, run_strictly, take_strict};
+use survey::{is_survey, survey_of_words};
 use sy_board::Guard;
 use sy_commands::wanted_row::explain_unfit;
 use sy_endpoints::outlets::{Outlet, outlets};
@@ -55,6 +57,8 @@ use sy_running::runs_lines::runs_lines;
 use sy_running::streams::{report_input, take_closed_streams};
 use sy_running::words::{RunWords, is_run};
 use sy_site::Site;
+use sy_survey::folders::HostFolders;
+use sy_survey::tree::Tree;
 use sy_wire::{Buffered, FromRead, FromWrite, Sink, Source};
 use unread::{is_unread, unread};
 use version::{is_version, tell_version};
@@ -71,6 +75,17 @@ const SECONDS_OF_A_DAY: u64 = 86_400;
 const ERROR_BUFFER: usize = 512;
 
 type HostOutputs = Outputs<Buffered<FromWrite<Stdout>>, FromWrite<BufWriter<Stderr>>>;
+
+// Surveys configurations of rsyslogd that are files of the host.
+fn survey_files(rt: &HostRuntime, words: &[String], kinds: Kinds, out: &mut HostOutputs) -> u8 {
+    let files = HostFiles::new(rt, kinds);
+    let folders = HostFolders::new(rt);
+    let tree = Tree {
+        files: &files,
+        folders: &folders,
+    };
+    survey_of_words(rt.alloc(), words, &tree, out)
+}
 
 fn main(rt: HostRuntime) -> ExitCode {
     let (mut words, kinds, mut out) = match begin(&rt) {
@@ -90,6 +105,9 @@ fn main(rt: HostRuntime) -> ExitCode {
     if is_diff(words.as_slice()) {
         let files = HostFiles::new(&rt, kinds);
         return ExitCode::from(diff_of_words(rt.alloc(), words.as_slice(), &files, &mut out));
+    }
+    if is_survey(words.as_slice()) {
+        return ExitCode::from(survey_files(&rt, words.as_slice(), kinds, &mut out));
     }
     if is_unread(words.as_slice()) {
         return ExitCode::from(unread(&rt, words.as_slice(), &mut out));

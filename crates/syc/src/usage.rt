@@ -5,7 +5,7 @@ mod misread;
 
 use clap::error::ErrorKind;
 use clap::{Arg, ArgAction, Command as Parser, Error};
-use commands::{CODE, COMMANDS};
+use commands::{CODE, COMMANDS, CONFIG};
 use misread::misread_reason;
 use std::alloc::{AllocError, Global};
 use sy_report::command_line::command::is_word;
@@ -33,6 +33,11 @@ const METRICS_EVERY: &str =
 const RENAME: &str =
     "A relay that has another name after the change: the old one, = and the new one; once for each";
 
+const ROOT: &str =
+    "Look for the configurations behind it, and what they include, below this folder";
+
+const PROTECT: &str = "The classes that are asked for, as auth,authpriv.* (which is the default)";
+
 const ANY_FILE: &str = "Read FIFOs and devices too, not regular files alone";
 
 // A parser with the name of a file more. Here and below a parser that couldn't be made is passed on, since a `?` where
@@ -44,6 +49,10 @@ fn with_name<'a>(
     help: &'a str,
 ) -> Result<Parser<'a>, AllocError> {
     match parser {
+        Ok(parser) if is_word(name, CONFIG) => {
+            let files = Arg::new(alloc, name).help(help).required(true);
+            parser.arg(files.num_args(1..))
+        }
         Ok(parser) if is_word(name, CODE) => {
             let code = Arg::new(alloc, name).help(help).required(false);
             parser.arg(code.num_args(0..=2))
@@ -99,6 +108,10 @@ fn with_values<'a>(
 ) -> Result<Parser<'a>, AllocError> {
     if is_word(word, "graph") {
         return with_value(alloc, parser, "class", "CLASS", CLASS);
+    }
+    if is_word(word, "survey") {
+        let parser = with_value(alloc, parser, "protect", "SELECTOR", PROTECT);
+        return with_value(alloc, parser, "root", "DIR", ROOT);
     }
     if is_word(word, "diff") {
         return with_value(alloc, parser, "rename", "OLD=NEW", RENAME);
@@ -192,11 +205,11 @@ fn whole_parser<'a>(alloc: Global) -> Result<Parser<'a>, AllocError> {
 }
 
 // What clap answers for words that are no command: a call for help or the version, or what is wrong with them.
-fn ask_clap<'a>(parser: &mut Parser<'a>, words: &'a [&'a str]) -> Error {
+fn ask_clap<'a>(alloc: Global, parser: &mut Parser<'a>, words: &'a [&'a str]) -> Error {
     if let Err(error) = parser.try_get_matches_from_mut(words) {
         return error;
     }
-    match parser.error(ErrorKind::UnknownArgument, misread_reason(words)) {
+    match parser.error(ErrorKind::UnknownArgument, misread_reason(alloc, words)) {
         Ok(error) => error,
         Err(why) => Error::from(why),
     }
@@ -207,7 +220,7 @@ pub fn refusal(alloc: Global, words: &[&str]) -> Error {
     match whole_parser(alloc) {
         Ok(parser) => {
             let mut parser = parser;
-            ask_clap(&mut parser, words)
+            ask_clap(alloc, &mut parser, words)
         }
         Err(why) => Error::from(why),
     }

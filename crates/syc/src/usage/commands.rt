@@ -3,6 +3,9 @@
 /// The one name that may be left out, or be two words.
 pub const CODE: &str = "CODE";
 
+/// The one name that may be given several times.
+pub const CONFIG: &str = "CONFIG";
+
 const SITE: &str =
     "The site file: it names the relays with their configurations, the entries, what is protected, and which actions are spare";
 
@@ -34,6 +37,23 @@ const DIFF_BEHIND: &str = "Exit status:
 
 Example:
   syc diff --rename hub=center old/site new/site";
+
+const CONFIGS: &str =
+    "Configurations of rsyslogd, each of a host of its own; without --root what they include isn't read";
+
+const SARIF: &str = "Print a document of SARIF 2.1.0 in place of text";
+
+const ASSUMED: &str = "Refuse what is taken for granted too";
+
+const SURVEY_BEHIND: &str = "Exit status, of several files the greatest:
+  0  nothing is found
+  1  something is found, or with --strict something is taken for granted
+  2  a text isn't read, or the command line is faulty
+  3  out of memory
+  4  a read or a write failed
+
+Example:
+  syc survey --root / /etc/rsyslog.conf";
 
 const PASS_BEHIND: &str = "Exit status:
   0  all messages were written
@@ -132,7 +152,7 @@ Examples:
   syc explain SharedWorker";
 
 /// The commands: the word of each, what it does, its names and options with what they mean, and the end of its help.
-pub static COMMANDS: [(&str, &str, &[(&str, &str)], &[(&str, &str)], &str); 10] = [
+pub static COMMANDS: [(&str, &str, &[(&str, &str)], &[(&str, &str)], &str); 11] = [
     (
         "pass",
         "Read messages in octet-counted frames from standard input and write one line a message",
@@ -177,8 +197,15 @@ pub static COMMANDS: [(&str, &str, &[(&str, &str)], &[(&str, &str)], &str); 10] 
         "diff",
         "Say whether a site is worse than the one before a change",
         &[("OLD", OLD), ("NEW", NEW)],
-        &[],
+        &[("json", JSON)],
         DIFF_BEHIND,
+    ),
+    (
+        "survey",
+        "Say where rsyslogd may lose messages by its own configurations",
+        &[(CONFIG, CONFIGS)],
+        &[("strict", ASSUMED), ("json", JSON), ("sarif", SARIF)],
+        SURVEY_BEHIND,
     ),
     (
         "run",
