@@ -105,8 +105,18 @@ def kept(kind):
     return found + [files[name] for of, files in kept_folders() if of == kind and name in files]
 
 
+def fleet():
+    """Configurations of rsyslogd: those that are shown on it, and the rows' of a survey."""
+    found = [text for words, _, files in rows() if words[:1] == ["survey"] for text in files.values()]
+    for folder, _, names in os.walk(f"{TOP}/tests/fleet/configurations"):
+        found += [read(f"{folder}/{it}") for it in sorted(names)]
+    return found
+
+
 def corpus(kind):
     """The texts of a kind that the repository has."""
+    if kind == "fleet":
+        return fleet() + [files["fleet.conf"] for of, files in kept_folders() if of == kind]
     if kind == "stream":
         return kept(kind) + [stdin for words, stdin, _ in rows() if words[:1] == ["pass"]] + single_messages()
     wanted = {"site": lambda it: it == "site", "certificate": lambda it: it == "cert", "events": lambda it: it == "events"}

@@ -14,6 +14,8 @@ SAID = {
     # (the word of a plan's fault ends before its first control character)
     "site": rb"syc: (%s in line \d+|%s at \d+:\d+ of [^ \n]+|%s of [^ \n]+: [^\x00-\x1f\x7f]*|read failed|illegal event in line \d+|86 TotalsFull in line \d+)\n"
     % (FAULT, FAULT, FAULT),
+    # (a plan above the profile's limits is told as a site's file is)
+    "survey": rb"syc: [^\n]+:\d+:\d+: not read: [^\n]+\n|syc: of [^\n]+:\nsyc: [^\n]+\n",
 }
 
 
@@ -117,6 +119,6 @@ class Runner:
             hold(ended.said == b"", f"`{call}` ended with {ended.status} and said {ended.said[:200]!r}")
         else:
             # (notes may follow where an explanation is asked for)
-            form = SAID["pass" if words[0] == "pass" else "site"] + (b".*" if has_more else b"")
+            form = SAID[words[0] if words[0] in SAID else "site"] + (b".*" if has_more else b"")
             hold(re.fullmatch(form, ended.said, re.DOTALL), f"`{call}` ended with {ended.status} and said {ended.said[:200]!r}")
         return ended

@@ -1,6 +1,7 @@
 """What holds of each case, by kind. None of it is a second model of the program: its answers are compared with each other,
 and with what the formats allow."""
 
+import json
 import re
 
 from mutate import cuttings
@@ -11,6 +12,8 @@ REFUSED = re.compile(rb"refused: [a-z0-9]+\.[a-z]+ at [A-Za-z0-9._-]+ \d+: \d+ [
 WRONG_ROW = re.compile(rb"refused: certificate line \d+: (cert|class|reach|branch|rank|inner|path)\n")
 LOSS = re.compile(rb"loss line (\d+) message (\d+) at ([A-Za-z0-9._-]+) ([a-z0-9]+\.[a-z]+) (take|expire|grab|giveup|post|postlost)( spare)?")
 EVENTS = re.compile(rb"events (\d+) messages (\d+) losses (\d+)")
+SURVEYED = re.compile(rb"fleet\.conf: (?:may lose: (\d+) findings?|nothing found) for \d+ class(?:es)?, \d+ assumptions?\n")
+FOUND = re.compile(rb"(?m)^fleet\.conf:(\d+):(\d+): (?:\d+ )?[A-Z][A-Za-z]+[^\n]*\n  why: [^\n]+\n  change: [^\n]+$")
 SEVERITIES = b"emerg alert crit err warning notice info debug".split()
 FACILITIES = b"kern user mail daemon auth syslog lpr news uucp cron authpriv ftp 12 13 14 15 local0 local1 local2 local3 local4 local5 local6 local7".split()
 
@@ -54,6 +57,35 @@ def of_site(runner, random, files):
         hold(checked.out == b"" and told.out == b"", "a faulty site, with an answer")
         hold(more.said.startswith(checked.said), "check --explain begins with another fault")
         hold(told.said.startswith(checked.said), "check --all begins with another fault")
+
+
+def named_alike(told):
+    """What is told of a configuration, whether by itself or by another file that includes it: of stops the lines alone, since
+    those of another file than the input's have its name."""
+    told = told.replace(b"./host.conf", b"fleet.conf").replace(b"./fleet.conf", b"fleet.conf")
+    return re.sub(rb"; stops: [^\n]*", lambda it: b" ".join(re.findall(rb"\d+", it[0])), told)
+
+
+def of_fleet(runner, text):
+    """A configuration of rsyslogd: its lines are of the documented form, its document has the same findings, and it is judged
+    the same where another file includes it."""
+    runner.put({"fleet.conf": text, "host.conf": b'include(file="/fleet.conf")\n'})
+    alone = runner.run("survey", "fleet.conf")
+    included = runner.run("survey", "--root", ".", "/host.conf")
+    told = [named_alike(it) for it in (included.out, included.said)]
+    hold((included.status, *told) == (alone.status, *map(named_alike, alone[1:])),
+         f"another answer where it is included: {included.status} {told[0][:300]!r} {told[1][:99]!r}")
+    if alone.status > 1:
+        hold(alone.out == b"", "not judged, with an answer")
+        return
+    first = SURVEYED.match(alone.out)
+    hold(first, f"survey wrote {alone.out[:200]!r}")
+    found = FOUND.findall(alone.out)
+    hold(len(found) == int(first[1] or 0), f"{first[0]!r} with {len(found)} findings")
+    hold(found or alone.status == 0, "status 1 with nothing found")
+    written = runner.run("survey", "--json", "fleet.conf")
+    (host,) = json.loads(written.out)["hosts"]
+    hold((written.status, len(host["findings"])) == (alone.status, len(found)), "the document has other findings")
 
 
 def freed(certificate):
