@@ -13,7 +13,7 @@ pub(crate) fn site_codes() -> [Code; 10] {
         fault(
             SiteFault::Line(1).words(),
             "a line of a site file or an events file has none of the shapes, names a relay that isn't there, or is one too many",
-            "write relay NAME FILE, entry RELAY PORT, protect SELECTOR RELAY ACTION, spare RELAY ACTION, outside NAME ADDRESS PORT, or # before a comment",
+            "write relay NAME FILE, entry RELAY PORT, protect SELECTOR RELAY ACTION, spare RELAY ACTION, outside NAME ADDRESS PORT, tunnel RELAY ACTION, or # before a comment",
         ),
         fault(
             SiteFault::Duplicate(1).words(),
@@ -52,7 +52,7 @@ pub(crate) fn site_codes() -> [Code; 10] {
         ),
         fault(
             SiteFault::NoSuchAction(1).words(),
-            "a spare line's relay has no action of that name",
+            "a spare line's relay has no action of that name, or a tunnel line's has no omfwd action of that name",
             "write the name of an action of the relay's file",
         ),
         fault(

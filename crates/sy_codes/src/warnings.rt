@@ -13,7 +13,7 @@ fn warning(of: Caution, means: &'static str, change: &'static str) -> Code {
 }
 
 /// What is lawful in a site and unwise.
-pub(crate) fn warning_codes() -> [Code; 17] {
+pub(crate) fn warning_codes() -> [Code; 18] {
     [
         warning(
             Caution::NoEffect,
@@ -74,6 +74,11 @@ pub(crate) fn warning_codes() -> [Code; 17] {
             Caution::NobodyThere,
             "a forward leads to an address where no relay or outside line is",
             "correct target and port, or write an outside line",
+        ),
+        warning(
+            Caution::BlindTunnel,
+            "a link goes through a tunnel, which takes messages that the relay behind it may never get, and each of them is done",
+            "stop the sending relay before the tunnel and the relay behind it, start it after them, and compare its done with what that relay has taken",
         ),
         warning(
             Caution::AuditFacility,

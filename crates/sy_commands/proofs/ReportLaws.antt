@@ -10,6 +10,7 @@ use Rattle.sy_findings.specs.Checks.{KeepsAll, SaysChecked}
 use Rattle.sy_report.specs.Outcomes.{Prints}
 use Rattle.sy_report.specs.Reports.{Streams}
 use Rattle.sy_commands.specs.SiteFiles.{HaveBytes}
+use Rattle.sy_tunnels.specs.Tunnels.{machine_text}
 use Rattle.sy_places.specs.SiteFiles.{AreGiven, IsSiteOf}
 use Rattle.sy_commands.specs.Verdicts.{DescribesKept}
 use Rattle.sy_findings.specs.Verdicts.{SaysOf}
@@ -60,7 +61,7 @@ module _ (bytes_of : List ℕ → Option (List ℕ)) where
   one_of_files one text site is reported other is_other =
       let same = same_files is_other.given is.given (is_other.are_given.names ∙ sym is.are_given.names) is_other.are_given.bytes is.are_given.bytes
       (subst (HaveBytes bytes_of) (sym is.are_given.names) reported) in
-      one text is.given other site (subst (λ files. Describes text files other) same is_other.describes) is.describes
+      one (machine_text text) is.given other site (subst (λ files. Describes (machine_text text) files other) same is_other.describes) is.describes
 
 -- ---- what an accepted certificate shows
 

@@ -5,3 +5,4 @@ pub mod lines;
 mod reach;
 pub(crate) mod reference;
 pub mod spare;
+mod tunnel;

@@ -2,6 +2,7 @@
 
 use crate::all_of_file::{Bounds, FileSpot, all_of_file};
 use crate::all_of_site::{JudgedFile, SiteHunt, find_lines, find_references, leave_out, word_of};
+use crate::all_of_tunnels::find_tunnels;
 use crate::faults_with_notes::{ReportedFault, push_reported, without};
 use std::alloc::{AllocError, Global};
 use sy_fault_notes::fault_notes::fault_words;
@@ -157,7 +158,11 @@ fn find_all(
     };
     let judged = judge_files(alloc, texts, hunt, names)?;
     let given = given_files(alloc, hunt, judged.as_slice())?;
-    find_references(alloc, hunt, judged.as_slice(), given.as_slice())
+    find_references(alloc, hunt, judged.as_slice(), given.as_slice())?;
+    match texts.text() {
+        Some(text) => find_tunnels(alloc, hunt, text, judged.as_slice(), given.as_slice()),
+        None => Ok(()),
+    }
 }
 
 // Whether there may be more to find than why a command stopped.
@@ -206,7 +211,7 @@ pub fn other_faults(
     if !has_others(halt) {
         return Ok(no_others(alloc));
     }
-    let Some(text) = texts.text() else {
+    let Some(text) = texts.machine_text() else {
         return Ok(no_others(alloc));
     };
     let mut hunt = SiteHunt::new(alloc, texts.name, Vec::from_slice(alloc, text)?)?;

@@ -15,7 +15,7 @@ use sy_report::texts::note::Note;
 use sy_site::{Site, SiteFault, without_return};
 
 /// The most faults of a site file that are told.
-const MOST_FAULTS: usize = 64;
+pub const MOST_FAULTS: usize = 64;
 
 /// The most bytes of a site file.
 const MOST_BYTES: usize = 1_048_576;
@@ -122,14 +122,15 @@ fn file_with<'a>(
     None
 }
 
-// The note of a fault of a line. The files are those that it may speak of.
-fn note_of(
+/// The note of a fault of a line of that text. The files are those that it may speak of.
+pub fn note_of(
     alloc: Global,
-    hunt: &SiteHunt<'_>,
+    name: &str,
+    text: &[u8],
     judged: &[JudgedFile<'_>],
     fault: &SiteFault,
 ) -> Result<Note, AllocError> {
-    let at = faulty_line(hunt.name, hunt.draft.text(), fault);
+    let at = faulty_line(name, text, fault);
     let mut note = Note::new(alloc);
     push_site_fault(alloc, &mut note, at, file_with(judged, at, fault), fault)?;
     note.finish()
@@ -143,7 +144,7 @@ fn push_fault(
     line: usize,
     fault: SiteFault,
 ) -> Result<(), AllocError> {
-    let note = note_of(alloc, hunt, judged, &fault)?;
+    let note = note_of(alloc, hunt.name, hunt.draft.text(), judged, &fault)?;
     hunt.found.push(ReportedFault::new(0, line as u64, Halt::Site(fault), note))?;
     Ok(())
 }
@@ -214,7 +215,7 @@ fn meet_line(alloc: Global, hunt: &mut SiteHunt<'_>, number: usize) -> Result<bo
     let text = hunt.draft.text();
     let is_utf16 = text.starts_with(&[0xff, 0xfe]) || text.starts_with(&[0xfe, 0xff]);
     let ends = text.len() > MOST_BYTES || is_utf16;
-    let reported = note_of(alloc, hunt, &[], &SiteFault::Line(number))?;
+    let reported = note_of(alloc, hunt.name, text, &[], &SiteFault::Line(number))?;
     let is_reported = if ends || (number == 1 && cut_mark(&mut hunt.draft)?) {
         false
     } else {

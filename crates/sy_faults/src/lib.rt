@@ -4,5 +4,6 @@
 pub mod all_faults;
 mod all_of_file;
 mod all_of_site;
+mod all_of_tunnels;
 pub mod faults_with_notes;
 mod mending;

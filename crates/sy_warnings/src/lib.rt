@@ -13,5 +13,6 @@ pub mod holders;
 mod holding;
 mod holdups;
 pub mod objects;
+mod tunnels;
 pub mod unwise;
 pub mod warnings;

@@ -6,6 +6,7 @@ use crate::cautions::unreached_relay;
 use crate::circles::warn_of_circles;
 use crate::endpoints::{warn_of_endpoint, warn_of_item_by_outlet};
 use crate::holders::{Holder, holders_of};
+use crate::tunnels::warn_of_tunnels;
 use crate::unwise::warn_of_item;
 use std::alloc::{AllocError, Global};
 use sy_places::relay_file::contents::{Item, items_of};
@@ -49,6 +50,8 @@ pub enum Caution {
     NoEndpoint,
     /// Nobody is where a forward leads.
     NobodyThere,
+    /// A link goes through a tunnel, which may take messages that nobody behind it gets.
+    BlindTunnel,
     /// Facility 4 is protected, and facility 13, log audit, isn't.
     AuditFacility,
     /// An action that may wait without end shares a worker with what protected messages need, and they don't need it.
@@ -77,6 +80,7 @@ impl Caution {
             Caution::OwnEndpoint => "OwnEndpoint",
             Caution::NoEndpoint => "NoEndpoint",
             Caution::NobodyThere => "NobodyThere",
+            Caution::BlindTunnel => "BlindTunnel",
             Caution::AuditFacility => "AuditFacility",
             Caution::SharedWorker => "SharedWorker",
             Caution::Bottleneck => "Bottleneck",
@@ -270,6 +274,7 @@ fn warn_of_site(
 ) -> Result<(), AllocError> {
     let reached = reached_of(warnings.alloc, site)?;
     warn_of_audit(warnings, site, texts.name, text);
+    warn_of_tunnels(warnings, site, texts.name, text)?;
     warn_of_circles(warnings, texts, site, reached.of_protected.as_slice())?;
     for relay in 0..site.relays() {
         if warnings.is_full() {

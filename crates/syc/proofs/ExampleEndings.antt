@@ -8,6 +8,8 @@ use Rattle.sy_site.specs.Sites.{Site}
 use Rattle.sy_site.specs.machine.Soundness.{IsSound}
 use Rattle.sy_site.specs.texts.Describes.{Describes, File, file_named}
 use Rattle.sy_site.specs.texts.Files.{file_names}
+use Rattle.sy_site.specs.texts.Lines.{words}
+use Rattle.sy_tunnels.specs.Tunnels.{machine_text}
 use Rattle.sy_commands.specs.Checks.{AskedIs}
 use Rattle.sy_findings.specs.Checks.{KeepsAll, accepted_line}
 use Rattle.syc.specs.Examples.{IsAccepted, IsCertified, IsReplayed, IsTheSite, IsVerified, Printed, bytes_of, files, relay_files}
@@ -55,10 +57,17 @@ given_are (x ∷ y ∷ []) names given =
     let second = same_file y (codes "hub.conf") HUB.now (second_name names) (bytes_known y (codes "hub.conf") HUB.now (second_name names) refl given.1.0) in
     λ i. first i ∷ second i ∷ []
 
+-- the example has no tunnel line
+machine_is : machine_text SITE.now ≡ SITE.now
+unfolding words
+machine_is = refl
+
 module _ (one : (text : List ℕ) (files : List File) (a b : Site) → Describes text files a → Describes text files b → a ≡ b) where
   described : (site : Site) → IsSiteOf bytes_of SITE.now site → Describes SITE.now relay_files site
   described site is =
-      subst (λ files. Describes SITE.now files site) (given_are is.given (is.are_given.names ∙ names_are) is.are_given.bytes) is.describes
+      subst (λ text. Describes text relay_files site) machine_is
+      (subst (λ files. Describes (machine_text SITE.now) files site) (given_are is.given (is.are_given.names ∙ names_are) is.are_given.bytes)
+      is.describes)
 
   pub the_site : (site : Site) → IsSiteOf bytes_of SITE.now site → IsTheSite site
   the_site site is =

@@ -195,7 +195,7 @@ pub fn step_words(
     let mut words = Words::new(alloc);
     if let (Halt::Illegal(number), Some(text), Some(events)) = (
         halt,
-        texts.text(),
+        texts.machine_text(),
         texts.second_text(),
     ) {
         if let Some(site) = site_of(alloc, texts, text)? {

@@ -6,6 +6,7 @@ use crate::plan::parameter_rows::push_list;
 use crate::plan::tests::{push_facility, push_severity, push_shape};
 use crate::site::reach::{push_outside_line, push_relay_line};
 use crate::site::spare::{push_policy_line, push_spare_line};
+use crate::site::tunnel::push_tunnel_line;
 use std::alloc::{AllocError, Global};
 use sy_places::site_file::source::{line_at, word_in};
 use sy_report::texts::near::nearest;
@@ -16,8 +17,8 @@ use sy_site::without_return;
 use sy_wire::numbers::is_numeral;
 
 /// The words that a line begins with.
-static FIRST_WORDS: [&[u8]; 6] = [
-    b"relay", b"entry", b"protect", b"policy", b"spare", b"outside",
+static FIRST_WORDS: [&[u8]; 7] = [
+    b"relay", b"entry", b"protect", b"policy", b"spare", b"outside", b"tunnel",
 ];
 
 /// The most bytes of a site file.
@@ -67,7 +68,7 @@ pub fn words_in(line: &[u8]) -> usize {
 // Says that a line begins with no word that a line begins with.
 fn push_first_word(alloc: Global, note: &mut Note, at: FileLine<'_>, word: &[u8]) {
     stands_at_word(alloc, note, at, 0);
-    note.why.say("a line begins with relay, entry, protect, policy, spare or outside");
+    note.why.say("a line begins with relay, entry, protect, policy, spare, outside or tunnel");
     match nearest(word, &FIRST_WORDS) {
         Some(near) => note.change.append(&[Part::Text(near)]),
         None => note
@@ -233,6 +234,7 @@ fn push_by_first_word(alloc: Global, note: &mut Note, at: FileLine<'_>) -> Resul
         Some((_, b"entry")) => return push_entry_line(alloc, note, at),
         Some((_, b"protect")) => return push_protect_line(alloc, note, at),
         Some((_, b"spare")) => return push_spare_line(alloc, note, at),
+        Some((_, b"tunnel")) => return push_tunnel_line(alloc, note, at),
         Some((_, b"relay")) => push_relay_line(alloc, note, at),
         Some((_, b"policy")) => push_policy_line(alloc, note, at),
         Some((_, b"outside")) => push_outside_line(alloc, note, at),

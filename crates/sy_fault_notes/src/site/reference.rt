@@ -96,10 +96,11 @@ pub fn push_no_entry(
     }
 }
 
-/// What a line names: an action that writes a file, or any action.
+/// What a line names: an action that writes a file, a forward, or any action.
 #[derive(Clone, Copy)]
 enum Sought {
     Archive,
+    Forward,
     Action,
 }
 
@@ -109,6 +110,7 @@ fn is_sought(object: Object<'_>, sought: Sought) -> bool {
     }
     match sought {
         Sought::Archive => value_of(object.params, b"type") == Some(b"omfile"),
+        Sought::Forward => value_of(object.params, b"type") == Some(b"omfwd"),
         Sought::Action => true,
     }
 }
@@ -208,7 +210,24 @@ pub fn push_no_archive(
     push_choice(alloc, note, file, relay, wanted, Sought::Archive)
 }
 
-/// Says of a spare line that its relay has no action of that name, and which there are.
+// Says of a tunnel line that its relay has no forward of that name, and which there are.
+fn push_no_forward(
+    alloc: Global,
+    note: &mut Note,
+    file: Option<&RelayText>,
+    relay: &[u8],
+    wanted: &[u8],
+) -> Result<(), AllocError> {
+    note.why.append(&[
+        Part::Text(relay),
+        Part::Text(b" has no omfwd action of this name"),
+    ]);
+    note.change.say("an omfwd action");
+    push_choice(alloc, note, file, relay, wanted, Sought::Forward)
+}
+
+/// Says of a spare line that its relay has no action of that name, and of a tunnel line that it has no forward of that name, and
+/// which there are.
 pub fn push_no_action(
     alloc: Global,
     note: &mut Note,
@@ -219,6 +238,9 @@ pub fn push_no_action(
     let (Some((_, relay)), Some((_, wanted))) = (word_in(at.line, 1), word_in(at.line, 2)) else {
         return Ok(());
     };
+    if matches!(word_in(at.line, 0), Some((_, b"tunnel"))) {
+        return push_no_forward(alloc, note, file, relay, wanted);
+    }
     note.why.append(&[
         Part::Text(relay),
         Part::Text(b" has no action of this name"),

@@ -1,10 +1,11 @@
 -- A file of a relay as it was read, and why what was read describes no site.
 use Rattle.std.specs.Prelude.{◌≡◌, ℕ, List, string_bytes}
 use Rattle.sy_site.specs.texts.Describes.{File}
-use Rattle.sy_site.specs.texts.HasFault.{HasFault}
+use Rattle.sy_site.specs.declared.fault.SiteFault.{SiteFault}
 use Rattle.sy_site.specs.declared.fault.SiteFault.TheVariants as site_fault
 use Rattle.sy_report.specs.declared.outcome.halt.Halt.{Halt}
 use Rattle.sy_report.specs.declared.outcome.halt.Halt.TheVariants as halt
+use Rattle.sy_places.specs.SiteFiles.{IsFaultWith}
 use Rattle.sy_places.specs.declared.site_file.texts.RelayText.{RelayText}
 
 abbrev pub file_of : RelayText → File
@@ -12,6 +13,12 @@ file_of f = record { name = string_bytes f.name; bytes = f.text.items }
 
 -- the site file has this fault with these files, or memory ran out
 abbrev pub HasSiteHalt : List ℕ → List File → Halt → Type 0
-HasSiteHalt text files (halt.Site fault) = (fault ≡ site_fault.NoMemory → ⊥) × HasFault text files fault
+HasSiteHalt text files (halt.Site fault) = (fault ≡ site_fault.NoMemory → ⊥) × IsFaultWith text files fault
 HasSiteHalt text files halt.NoMemory = Unit {0}
 HasSiteHalt text files _ = ⊥
+
+-- a command stops so for a fault of a site
+abbrev pub IsHaltOf : SiteFault → Halt → Type 0
+IsHaltOf fault (halt.Site it) = (it ≡ fault) × (fault ≡ site_fault.NoMemory → ⊥)
+IsHaltOf fault halt.NoMemory = fault ≡ site_fault.NoMemory
+IsHaltOf fault _ = ⊥

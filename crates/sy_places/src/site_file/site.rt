@@ -2,15 +2,18 @@
 ghost use Rattle.std.specs.Prelude.{◌≡◌, ◌⊎◌, ◌∷◌, [], ℕ, List, Some, IfErr, IfOk, IfSome, OnOk, map, string_bytes};
 ghost use Rattle.sy_site.specs.texts.Describes.{Describes, file};
 ghost use Rattle.sy_site.specs.texts.Files as texts;
-ghost use Rattle.sy_places.specs.SiteFiles.{AreFilesOf, AreGiven, IsSiteOf};
-ghost use Rattle.sy_places.specs.internal.Halts.{HasSiteHalt, file_of};
+ghost use Rattle.sy_site.specs.texts.HasFault.{HasFault};
+ghost use Rattle.sy_tunnels.specs.Tunnels.{NameLinks, machine_text};
+ghost use Rattle.sy_places.specs.SiteFiles.{AreFilesOf, AreGiven, IsFaultWith, IsSiteOf};
+ghost use Rattle.sy_places.specs.internal.Halts.{HasSiteHalt, IsHaltOf, file_of};
 ghost use Rattle.sy_places.specs.Halts.{IsNoSite, IsReadHalt, IsUnread};
 
-use crate::site_file::texts::{RelayText, SiteTexts};
+use crate::site_file::texts::{RelayText, SiteText, SiteTexts};
 use std::alloc::{AllocError, Global};
 use sy_report::outcome::halt::Halt;
 use sy_report::reading::files::{FileFault, Files};
 use sy_site::{Site, SiteFault, file_names};
+use sy_tunnels::{machine_text, tunnels_of};
 
 /// A site as it was read, or why there is none, and the texts that were read for it.
 #[derive(Drop)]
@@ -76,18 +79,63 @@ fn files_of<F: Files>(alloc: Global, files: &F, text: &[u8]) -> Result<Vec<Relay
     }
 }
 
-// The site of a text and the files that it names.
-fn site_in(alloc: Global, text: &[u8], files: &[RelayText]) -> Result<Site, Halt>
-    ensures ok { IfOk result (λ site. Describes text.now (map file_of files.now) site) }
-    ensures err { IfErr result (HasSiteHalt text.now (map file_of files.now)) }
+fn halt_of(fault: SiteFault) -> Halt
+    ensures { IsHaltOf fault result }
+{
+    match fault {
+        SiteFault::NoMemory => Halt::NoMemory,
+        fault => Halt::Site(fault),
+    }
+}
+
+// The site of a text, without its tunnel lines, and of the files that it names.
+fn site_in(alloc: Global, machine: &[u8], files: &[RelayText]) -> Result<Site, SiteFault>
+    ensures ok { IfOk result (λ site. Describes machine.now (map file_of files.now) site) }
+    ensures err { IfErr result (λ fault. (fault ≡ SiteFault.NoMemory) ⊎ HasFault machine.now (map file_of files.now) fault) }
 {
     let Ok(lent) = lend(alloc, files) else {
-        return Err(Halt::NoMemory);
+        return Err(SiteFault::NoMemory);
     };
-    match Site::read(alloc, text, lent.as_slice()) {
+    Site::read(alloc, machine, lent.as_slice())
+}
+
+// The site of a text and the files that it names, whose tunnel lines name links of it.
+fn site_of_files(
+    alloc: Global,
+    text: &[u8],
+    machine: &[u8],
+    files: &[RelayText],
+) -> Result<Site, SiteFault>
+    requires machine { machine.now ≡ machine_text text.now }
+    ensures ok { IfOk result (λ site. Describes (machine_text text.now) (map file_of files.now) site) }
+    ensures links { IfOk result (λ site. NameLinks site text.now) }
+    ensures err { IfErr result (λ fault. (fault ≡ SiteFault.NoMemory) ⊎ IsFaultWith text.now (map file_of files.now) fault) }
+{
+    let site = site_in(alloc, machine, files)?;
+    tunnels_of(alloc, &site, text)?;
+    Ok(site)
+}
+
+// The texts of a site file, of that text for its machine, and of the files that it names, and the site that they describe.
+fn site_with<'a>(
+    alloc: Global,
+    name: &'a str,
+    text: Vec<u8>,
+    machine: Vec<u8>,
+    found: Vec<RelayText>,
+) -> ReadSite<'a>
+    requires machine { machine.items ≡ machine_text text.items }
+    ensures ok { IfOk result.site (λ site. Describes (machine_text text.items) (map file_of found.items) site) }
+    ensures links { IfOk result.site (λ site. NameLinks site text.items) }
+    ensures err { IfErr result.site (HasSiteHalt text.items (map file_of found.items)) }
+{
+    let site = match site_of_files(alloc, text.as_slice(), machine.as_slice(), found.as_slice()) {
         Ok(site) => Ok(site),
-        Err(SiteFault::NoMemory) => Err(Halt::NoMemory),
-        Err(fault) => Err(Halt::Site(fault)),
+        Err(fault) => Err(halt_of(fault)),
+    };
+    ReadSite {
+        texts: SiteTexts::new(alloc, name, Some(SiteText { text, machine }), found),
+        site,
     }
 }
 
@@ -98,16 +146,21 @@ fn site_of<'a, F: Files>(alloc: Global, files: &F, name: &'a str, text: Vec<u8>)
     ensures kind { IfErr result.site IsReadHalt }
     ensures unread { IfErr result.site (IsUnread (F.may_fail files.now) (texts.file_names text.items)) }
 {
+    let Ok(machine) = machine_text(alloc, text.as_slice()) else {
+        return ReadSite {
+            texts: SiteTexts::empty(alloc, name),
+            site: Err(Halt::NoMemory),
+        };
+    };
     match files_of(alloc, files, text.as_slice()) {
-        Ok(found) => {
-            let site = site_in(alloc, text.as_slice(), found.as_slice());
-            ReadSite {
-                texts: SiteTexts::new(alloc, name, Some(text), found),
-                site,
-            }
-        }
+        Ok(found) => site_with(alloc, name, text, machine, found),
         Err(halt) => ReadSite {
-            texts: SiteTexts::new(alloc, name, Some(text), Vec::new(alloc)),
+            texts: SiteTexts::new(
+                alloc,
+                name,
+                Some(SiteText { text, machine }),
+                Vec::new(alloc),
+            ),
             site: Err(halt),
         },
     }

@@ -40,12 +40,19 @@ struct Second<'a> {
     text: Option<Vec<u8>>,
 }
 
+/// The text of a site file as it was read, and as its machine is read from it: there each tunnel line is a comment.
+#[derive(Drop)]
+pub struct SiteText {
+    pub text: Vec<u8>,
+    pub machine: Vec<u8>,
+}
+
 /// The texts of a command's files, as far as they were read.
 #[derive(Drop)]
 pub struct SiteTexts<'a> {
     /// The name of the site file.
     pub name: &'a str,
-    text: Option<Vec<u8>>,
+    text: Option<SiteText>,
     // the relays' files, in the order in which the site file names them first
     files: Vec<RelayText>,
     // the place of each relay's file among these, where it has one
@@ -59,7 +66,7 @@ impl<'a> SiteTexts<'a> {
     pub fn new(
         alloc: Global,
         name: &'a str,
-        text: Option<Vec<u8>>,
+        text: Option<SiteText>,
         files: Vec<RelayText>,
     ) -> SiteTexts<'a> {
         SiteTexts {
@@ -77,10 +84,18 @@ impl<'a> SiteTexts<'a> {
         SiteTexts::new(alloc, name, None, Vec::new(alloc))
     }
 
-    /// The text of the site file.
+    /// The text of the site file, as it was read.
     pub fn text(&self) -> Option<&[u8]> {
         match &self.text {
-            Some(text) => Some(text.as_slice()),
+            Some(found) => Some(found.text.as_slice()),
+            None => None,
+        }
+    }
+
+    /// The text of the site file that its machine is read from: the same, with each tunnel line as a comment.
+    pub fn machine_text(&self) -> Option<&[u8]> {
+        match &self.text {
+            Some(found) => Some(found.machine.as_slice()),
             None => None,
         }
     }
@@ -253,10 +268,10 @@ pub fn read_rest<F: Files>(
     texts: &mut SiteTexts<'_>,
 ) -> Result<(), AllocError> {
     match texts.text.take() {
-        Some(text) => {
-            let site_text = without_mark(text.as_slice());
+        Some(found) => {
+            let site_text = without_mark(found.text.as_slice());
             let read = read_relay_lines(alloc, files, texts, site_text);
-            texts.text = Some(text);
+            texts.text = Some(found);
             read
         }
         None => note_unread(alloc, files, texts.name, &mut texts.unread),

@@ -1,0 +1,13 @@
+use Rattle.std.proofs.Common.{rules, tests, not, length, ◌==◌}
+use Rattle.std.proofs.lemmas.Iterator.Consumers.{YieldsList-at, YieldsList-from_filter, map_from_collect}
+use Rattle.std.proofs.lemmas.Iterator.Splits.{YieldsList-from_slice_split}
+use Rattle.sy_site.specs.texts.Lines.{words}
+use Rattle.sy_tunnels.proofs.lines.words_in.Goals as goal
+
+pub returns : goal.returns
+unfolding words
+returns c =
+    map_from_collect _ c.collect.ensures.ran
+    (YieldsList-from_filter _ (λ w. not (length w == 0)) (YieldsList-at c.filter.ensures.source
+    (YieldsList-from_slice_split _ _ c.args.line.now c.split.ensures.rest c.split.ensures.done c.split.ensures.closure (λ x r q k. search (rules, tests))))
+    c.filter.ensures.closure (λ x r q k. search (rules, tests)))
