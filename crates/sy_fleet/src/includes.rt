@@ -1,5 +1,5 @@
 //! The other files that a text names to be read in the place of a statement.
-ghost use Rattle.std.specs.Prelude.{◌≡◌, ◌<◌, IfOk, IfSome, length, slice_get};
+ghost use Rattle.std.specs.Prelude.{◌≡◌, ◌<◌, IfOk, IfSome, length, slice_get, true};
 ghost use Rattle.sy_fleet_text.specs.declared.piece.Kind.TheVariants as k;
 ghost use Rattle.sy_fleet_text.specs.declared.piece.Object.TheVariants as object;
 ghost use Rattle.sy_fleet.specs.Includes as spec;
@@ -8,7 +8,7 @@ use crate::directives::directive_at;
 use crate::params::{Span, params_of, span_of};
 use crate::statements::statement_end;
 use std::alloc::{AllocError, Global};
-use sy_fleet_text::scan::byte_at;
+use sy_fleet_text::scan::{byte_at, part};
 use sy_fleet_text::words::same_word;
 use sy_fleet_text::{Kind, Object, Piece};
 
@@ -38,7 +38,7 @@ fn object_at(
 ) -> Result<Option<Include>, AllocError>
     requires within { first < length pieces.now }
     requires kind { IfSome (slice_get pieces.now first) (λ piece. piece.kind ≡ k.Opening object.Include) }
-    ensures { IfOk result (λ found. IfSome found (λ it. spec.IsInclude pieces.now it.start it.end)) }
+    ensures { IfOk result (λ found. IfSome found (λ it. spec.IsInclude text.now pieces.now it.start it.end)) }
 {
     let end = statement_end(pieces, first);
     match pattern_of(alloc, text, &pieces[first..end])? {
@@ -51,13 +51,13 @@ fn object_at(
     }
 }
 
-// The pattern that a directive of the older syntax names.
-fn named_by(text: &[u8], piece: Piece) -> Option<Span> {
-    let found = directive_at(text, piece.start, piece.end);
-    if same_word(b"IncludeConfig", found.name.of(text)) {
-        Some(found.value)
-    } else {
-        None
+// Whether the directive that begins at a place is one that includes.
+fn names_include(text: &[u8], start: usize) -> bool
+    ensures { result ≡ true → spec.names_include text.now start ≡ true }
+{
+    match start.checked_add(14) {
+        Some(end) => same_word(b"$IncludeConfig", part(text, start, end)),
+        None => false,
     }
 }
 
@@ -65,14 +65,17 @@ fn named_by(text: &[u8], piece: Piece) -> Option<Span> {
 fn directive_in(text: &[u8], pieces: &[Piece], first: usize) -> Option<Include>
     requires within { first < length pieces.now }
     requires kind { IfSome (slice_get pieces.now first) (λ piece. piece.kind ≡ k.Directive) }
-    ensures { IfSome result (λ it. spec.IsInclude pieces.now it.start it.end) }
+    ensures { IfSome result (λ it. spec.IsInclude text.now pieces.now it.start it.end) }
 {
     let piece = pieces[first];
-    let pattern = named_by(text, piece)?;
+    if !names_include(text, piece.start) {
+        return None;
+    }
+    let found = directive_at(text, piece.start, piece.end);
     Some(Include {
         start: piece.start,
         end: piece.end,
-        pattern,
+        pattern: found.value,
     })
 }
 
@@ -84,7 +87,7 @@ fn include_at(
     first: usize,
 ) -> Result<Option<Include>, AllocError>
     requires { first < length pieces.now }
-    ensures { IfOk result (λ found. IfSome found (λ it. spec.IsInclude pieces.now it.start it.end)) }
+    ensures { IfOk result (λ found. IfSome found (λ it. spec.IsInclude text.now pieces.now it.start it.end)) }
 {
     match pieces[first].kind {
         Kind::Opening(Object::Include) => object_at(alloc, text, pieces, first),
@@ -100,7 +103,7 @@ pub fn next_include(
     pieces: &[Piece],
     from: usize,
 ) -> Result<Option<Include>, AllocError>
-    ensures { IfOk result (λ found. IfSome found (λ it. spec.IsInclude pieces.now it.start it.end)) }
+    ensures { IfOk result (λ found. IfSome found (λ it. spec.IsInclude text.now pieces.now it.start it.end)) }
 {
     for first in 0..pieces.len() {
         if pieces[first].start >= from {

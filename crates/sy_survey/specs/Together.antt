@@ -27,7 +27,7 @@ AreRead bytes_of files sources = All (IsFile bytes_of files) sources
 pub record IncludesIn (text : List ℕ) (start end : ℕ) : Type 0 where
   pub pieces : List Piece
   pub is_text : IsText text pieces
-  pub is : IsInclude pieces start end
+  pub is : IsInclude text pieces start end
 
 -- Nothing changes, or files of the host come in the place of a statement that includes.
 pub data Steps {F : Type 0} (bytes_of : F → List ℕ → Option (List ℕ)) (files : F) (text : List ℕ) : List ℕ → Type 0 where

@@ -3,22 +3,19 @@
 use crate::located::Located;
 use crate::rows::{Row, What};
 use crate::telling::{ASSUMPTIONS, Surveyed, is_assumed};
+use crate::whole::Whole;
 use crate::words::{assumed, change_of, kind_of, why_of, word_of};
 use std::alloc::{AllocError, Global};
 use sy_findings::verdicts::tally::names_of;
 use sy_fleet::Assumption;
 use sy_json::classes::class_names;
 use sy_json::objects::{Elements, Members};
-use sy_places::site_file::source::point_at;
 
-// Puts where a place of the whole text is: the file, the line and the column.
-fn insert_place(members: &mut Members, it: Surveyed<'_>, at: usize) {
-    let place = it.whole.place(at);
-    let (file, text) = it.whole.source(place.source);
-    let point = point_at(text, place.at);
-    members.text("file", file);
-    members.number("line", point.line);
-    members.number("column", point.column);
+// Puts where a place is: the file, the line and the column.
+fn insert_place(members: &mut Members, whole: &Whole, place: Located) {
+    members.text("file", whole.source(place.source).0);
+    members.number("line", place.line);
+    members.number("column", place.column);
 }
 
 // The places of a list.
@@ -28,9 +25,7 @@ fn places_of(alloc: Global, it: Surveyed<'_>, places: &[usize]) -> Elements {
     for at in places {
         last = last.go_on(it.whole, it.whole.place(*at));
         let mut members = Members::new(alloc);
-        members.text("file", it.whole.source(last.source).0);
-        members.number("line", last.line);
-        members.number("column", last.column);
+        insert_place(&mut members, it.whole, last);
         elements.object(members);
     }
     elements
@@ -52,7 +47,7 @@ fn finding_of(alloc: Global, it: Surveyed<'_>, row: &Row) -> Result<Members, All
     members.text("name", word_of(row.what));
     members.text("subject", subject);
     members.array("classes", class_names(alloc, row.classes.as_slice())?);
-    insert_place(&mut members, it, row.at);
+    insert_place(&mut members, it.whole, Located::of(it.whole, row.at));
     members.text("why", why_of(row.what));
     members.array("stops", stops_of(alloc, it, row));
     members.text("change", change_of(row.what, subject));
@@ -141,14 +136,13 @@ fn one(alloc: Global, members: Members) -> Elements {
 
 // Where a result is.
 fn location_of(alloc: Global, it: Surveyed<'_>, at: usize) -> Result<Members, AllocError> {
-    let place = it.whole.place(at);
-    let (file, text) = it.whole.source(place.source);
-    let point = point_at(text, place.at);
+    let place = Located::of(it.whole, at);
+    let file = it.whole.source(place.source).0;
     let mut artifact = Members::new(alloc);
     artifact.text("uri", uri_of(alloc, file)?.as_slice());
     let mut region = Members::new(alloc);
-    region.number("startLine", point.line);
-    region.number("startColumn", point.column);
+    region.number("startLine", place.line);
+    region.number("startColumn", place.column);
     let mut physical = Members::new(alloc);
     physical.object("artifactLocation", artifact);
     physical.object("region", region);

@@ -69,8 +69,7 @@ fn without_action(alloc: Global, fleet: &Fleet, selector: &[u8]) -> Result<Judge
     let mut judged = Judged {
         rows: Vec::new(alloc),
         classes: classes_of(alloc, selector)?,
-        archives: Vec::new(alloc),
-        met: Vec::new(alloc),
+        inputs: Vec::new(alloc),
     };
     for input in &fleet.inputs {
         let Input { at, module, .. } = *input;

@@ -1,6 +1,7 @@
 //! Patterns of file names, as the C library's `glob` matches them: `*`, `?`, `[..]` and a backslash before what stands for itself.
 
 use std::alloc::{AllocError, Global};
+use sy_fleet_text::scan::byte_at;
 
 // What one place of a name may be.
 #[derive(Clone, Copy)]
@@ -22,10 +23,6 @@ enum Item {
 pub(crate) fn is_pattern(text: &[u8]) -> bool {
     text.iter()
         .any(|it| matches!(*it, b'*' | b'?' | b'[' | b'\\'))
-}
-
-fn byte_at(text: &[u8], at: usize) -> u8 {
-    text.get(at).copied().unwrap_or(0)
 }
 
 // The set that begins behind a bracket, and the place behind it; nothing where no bracket ends it. One right at its beginning doesn't.

@@ -44,11 +44,6 @@ fn copied(alloc: Global, classes: &[Class]) -> Result<Vec<Class>, AllocError> {
     Ok(found)
 }
 
-// Whether what comes in at an input is kept, so that what else is found there loses no message.
-fn is_kept_at(archives: &[Option<u32>], input: u32) -> bool {
-    matches!(archives.get(input as usize), Some(Some(_)))
-}
-
 // Adds the findings of all kinds but the ninth, of the inputs at which something may be lost.
 fn push_found(
     alloc: Global,
@@ -58,7 +53,8 @@ fn push_found(
     found: &[Instance],
 ) -> Result<(), AllocError> {
     for instance in found {
-        if is_kept_at(judged.archives.as_slice(), instance.input.input) {
+        // (where its messages are kept, what else is found there loses none)
+        if judged.archive_of(instance.input.input).is_some() {
             continue;
         }
         if let Some(Spot { what, at, subject }) = spot_of(fleet, site, instance) {
@@ -177,14 +173,26 @@ fn unmet_classes(
     Ok(classes)
 }
 
-/// All that the checker finds, the classes that were asked for, and of each input an archive in which they are kept.
+/// Of an input an archive in which its messages are kept, where there is one, and whether all classes surely come to some.
+#[derive(Clone, Copy)]
+pub(crate) struct Met {
+    archive: Option<u32>,
+    is_met: bool,
+}
+
+/// All that the checker finds, the classes that were asked for, and what is known of each input.
 #[derive(Drop)]
 pub(crate) struct Judged {
     pub rows: Vec<Row>,
     pub classes: Vec<Class>,
-    pub archives: Vec<Option<u32>>,
-    /// The same, and whether all classes surely come to some archive.
-    pub met: Vec<(Option<u32>, bool)>,
+    pub inputs: Vec<Met>,
+}
+
+impl Judged {
+    /// An archive in which what comes in at an input is kept.
+    pub(crate) fn archive_of(&self, input: u32) -> Option<u32> {
+        self.inputs.get(input as usize)?.archive
+    }
 }
 
 // What is known of a plan's site before its inputs are looked at one by one.
@@ -235,13 +243,8 @@ fn waits_at(fleet: &Fleet, input: usize) -> bool {
     }
 }
 
-// Of an input its archive, and whether all classes surely come to some.
-fn archive_of(
-    alloc: Global,
-    looked: Looked<'_>,
-    selector: &[u8],
-    input: usize,
-) -> Result<(Option<u32>, bool), Halt> {
+// What is known of an input.
+fn met_at(alloc: Global, looked: Looked<'_>, selector: &[u8], input: usize) -> Result<Met, Halt> {
     let Looked {
         fleet,
         site,
@@ -253,29 +256,35 @@ fn archive_of(
     };
     // (of one that doesn't wait without end the checker accepts none)
     if !waits_at(fleet, input) {
-        return Ok((None, !met.is_empty()));
+        return Ok(Met {
+            archive: None,
+            is_met: !met.is_empty(),
+        });
     }
-    let kept = kept_archive(alloc, fleet, selector, input, met.as_slice())?;
-    Ok((kept, !met.is_empty()))
+    let archive = kept_archive(alloc, fleet, selector, input, met.as_slice())?;
+    Ok(Met {
+        archive,
+        is_met: !met.is_empty(),
+    })
 }
 
-// Adds of an input its archive, or that there is none: that of one like it.
-fn push_archive(
+// Adds what is known of an input, as of one like it, and that no archive surely gets its messages where that is so.
+fn push_met(
     alloc: Global,
     judged: &mut Judged,
     looked: Looked<'_>,
     selector: &[u8],
     input: usize,
 ) -> Result<(), Halt> {
-    let like = input_like(looked.fleet, input).and_then(|it: usize| judged.met.get(it).copied());
-    let (kept, is_met) = match like {
-        Some(found) => found,
-        None => archive_of(alloc, looked, selector, input)?,
+    let like = input_like(looked.fleet, input).and_then(|it: usize| judged.inputs.get(it).copied());
+    let met = match like {
+        Some(met) => met,
+        None => met_at(alloc, looked, selector, input)?,
     };
-    if judged.archives.push(kept).is_err() || judged.met.push((kept, is_met)).is_err() {
+    if judged.inputs.push(met).is_err() {
         return Err(Halt::NoMemory);
     }
-    if !is_met && push_unmet(alloc, judged, looked, input).is_err() {
+    if !met.is_met && push_unmet(alloc, judged, looked, input).is_err() {
         return Err(Halt::NoMemory);
     }
     Ok(())
@@ -303,11 +312,10 @@ fn judged_site(alloc: Global, fleet: &Fleet, site: &Site, selector: &[u8]) -> Re
     let mut judged = Judged {
         rows: Vec::new(alloc),
         classes,
-        archives: Vec::new(alloc),
-        met: Vec::new(alloc),
+        inputs: Vec::new(alloc),
     };
     for input in 0..fleet.inputs.len() {
-        push_archive(alloc, &mut judged, looked, selector, input)?;
+        push_met(alloc, &mut judged, looked, selector, input)?;
     }
     match push_found(alloc, &mut judged, fleet, site, found.as_slice()) {
         Ok(()) => Ok(judged),

@@ -48,9 +48,9 @@ fn is_input_kept(
 ) -> Result<bool, Halt>
     ensures { IfOk result (λ is. is ≡ true → spec.IsKept fleet.now selector.now input) }
 {
-    match judged.archives.get(input as usize) {
-        Some(Some(archive)) => is_kept(alloc, fleet, selector, input, *archive),
-        _ => Ok(false),
+    match judged.archive_of(input) {
+        Some(archive) => is_kept(alloc, fleet, selector, input, archive),
+        None => Ok(false),
     }
 }
 

@@ -7,7 +7,6 @@ use crate::words::{assumed, change_of, kind_of, why_of, word_of};
 use std::alloc::{AllocError, Global};
 use sy_findings::verdicts::tally::names_of;
 use sy_fleet::{Assumption, Fleet};
-use sy_places::site_file::source::point_at;
 use sy_report::texts::parts::{Part, append_parts};
 use sy_report::texts::printed::append_printed;
 
@@ -20,17 +19,15 @@ pub(crate) struct Surveyed<'a> {
 
 // A place: the file, the line and the column.
 fn append_place(out: &mut Vec<u8>, it: Surveyed<'_>, at: usize) -> Result<(), AllocError> {
-    let place = it.whole.place(at);
-    let (file, text) = it.whole.source(place.source);
-    let point = point_at(text, place.at);
-    append_printed(out, file)?;
+    let place = Located::of(it.whole, at);
+    append_printed(out, it.whole.source(place.source).0)?;
     append_parts(
         out,
         &[
             Part::Text(b":"),
-            Part::Number(point.line),
+            Part::Number(place.line),
             Part::Text(b":"),
-            Part::Number(point.column),
+            Part::Number(place.column),
             Part::Text(b": "),
         ],
     )
