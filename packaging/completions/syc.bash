@@ -104,7 +104,7 @@ _syc_offer_options() {
     case $1 in
     check) _syc_offer --explain --all --json --strict --any-file ;;
     certify | verify | replay) _syc_offer --explain --json --any-file ;;
-    diff) _syc_offer --rename --json --any-file ;;
+    diff) _syc_offer --explain --json --rename --any-file ;;
     survey) _syc_offer --protect --root --strict --json --sarif --any-file ;;
     graph) _syc_offer --full --class --any-file ;;
     unread) _syc_offer --repair ;;

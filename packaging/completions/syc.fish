@@ -87,7 +87,7 @@ end
 
 for command in syc syc-run
     complete -c $command -n '__syc_is pass check certify verify replay diff survey run unread graph explain syc-run' -s h -l help -d 'Print help'
-    complete -c $command -n '__syc_is check certify verify replay run syc-run' -l explain -d 'Explain what is found, or the fault'
+    complete -c $command -n '__syc_is check certify verify replay diff run syc-run' -l explain -d 'Explain what is found, or the fault'
     complete -c $command -n '__syc_is check certify verify replay diff survey graph run syc-run' -l any-file -d 'Read FIFOs and devices too'
     complete -c $command -n '__syc_is check run syc-run' -l strict -d 'Refuse a site that has warnings too'
     complete -c $command -n '__syc_is run syc-run' -l unchecked -d 'Run it without a check'

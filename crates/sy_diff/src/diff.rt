@@ -6,9 +6,10 @@ ghost use Rattle.sy_diff.specs.Diffs as spec;
 use crate::comparison::{Change, Comparison, Rename, compare, empty_comparisons_are_no_worse};
 use crate::document::documented;
 use crate::folder::{FilesIn, Place, place_of};
-use crate::telling::told;
+use crate::telling::{Texts, told};
 use std::alloc::{AllocError, Global};
 use sy_places::site_file::site::{ReadSite, read_site};
+use sy_places::site_file::texts::{SiteTexts, read_rest};
 use sy_report::outcome::answer::{Answer, print, stop};
 use sy_report::outcome::halt::Halt;
 use sy_report::outcome::report::report_texts;
@@ -18,14 +19,24 @@ use sy_site::Site;
 use sy_site::machine::sound_sites_are_safe;
 use sy_wire::Sink;
 
+/// In which form a comparison is printed.
+#[derive(Clone, Copy)]
+pub enum Form {
+    /// A line for each difference.
+    Lines,
+    /// The same, each finding with where it is, why, and what to change.
+    Explained,
+    /// A JSON document.
+    Document,
+}
+
 /// The site files before and after a change, and the relays that got other names.
 #[derive(Clone, Copy)]
 pub struct Wanted<'a> {
     pub old: &'a str,
     pub new: &'a str,
     pub renames: &'a [Rename<'a>],
-    /// Whether a JSON document is printed.
-    pub is_json: bool,
+    pub form: Form,
 }
 
 // Why there is no comparison: the site file whose site isn't one, where it is of a file, and why.
@@ -35,9 +46,16 @@ struct Stop<'a> {
     halt: Halt,
 }
 
+// A site, and the texts that it was read from.
+#[derive(Drop)]
+struct Known<'a> {
+    site: Site,
+    texts: SiteTexts<'a>,
+}
+
 // The site of a site file; the files that it names are looked for in its folder.
-fn site_of<'a, F: Files>(alloc: Global, files: &F, path: &'a str) -> Result<Site, Stop<'a>>
-    ensures ok { IfOk result (λ site. spec.IsSiteAt F.bytes_of files.now path.now site) }
+fn site_of<'a, F: Files>(alloc: Global, files: &F, path: &'a str) -> Result<Known<'a>, Stop<'a>>
+    ensures ok { IfOk result (λ known. spec.IsSiteAt F.bytes_of files.now path.now known.site) }
     ensures err { IfErr result (λ stop. spec.IsNoSiteAt F.bytes_of files.now path.now stop.halt) }
 {
     let Place { folder, name } = place_of(path);
@@ -46,9 +64,15 @@ fn site_of<'a, F: Files>(alloc: Global, files: &F, path: &'a str) -> Result<Site
         files,
         folder,
     };
-    let ReadSite { texts: _, site } = read_site(alloc, &files, name);
+    let ReadSite { mut texts, site } = read_site(alloc, &files, name);
     match site {
-        Ok(site) => Ok(site),
+        Ok(site) => match read_rest(alloc, &files, &mut texts) {
+            Ok(()) => Ok(Known { site, texts }),
+            Err(_) => Err(Stop {
+                file: None,
+                halt: Halt::NoMemory,
+            }),
+        },
         Err(halt) => Err(Stop {
             file: Some(path),
             halt,
@@ -56,21 +80,23 @@ fn site_of<'a, F: Files>(alloc: Global, files: &F, path: &'a str) -> Result<Site
     }
 }
 
-// What is said of a change, in lines or as a document.
+// What is said of a change.
 fn text_of(
     alloc: Global,
     change: Change<'_>,
     comparison: &Comparison,
-    is_json: bool,
+    texts: Texts<'_>,
+    form: Form,
 ) -> Result<Vec<u8>, AllocError> {
-    if is_json {
-        return documented(alloc, change, comparison);
+    match form {
+        Form::Lines => told(alloc, change, comparison, None),
+        Form::Explained => told(alloc, change, comparison, Some(texts)),
+        Form::Document => documented(alloc, change, comparison),
     }
-    told(alloc, change, comparison)
 }
 
 // The same, and whether the change is accepted.
-fn said(alloc: Global, change: Change<'_>, is_json: bool) -> Result<Answer, Halt>
+fn said(alloc: Global, change: Change<'_>, texts: Texts<'_>, form: Form) -> Result<Answer, Halt>
     ensures ok { IfOk result (λ a. spec.IsJudged change.entry a.is_accepted) }
     ensures err { IfErr result (λ halt. halt ≡ Halt.NoMemory) }
 {
@@ -80,7 +106,7 @@ fn said(alloc: Global, change: Change<'_>, is_json: bool) -> Result<Answer, Halt
     let Ok(comparison) = compare(alloc, change) else {
         return Err(Halt::NoMemory);
     };
-    match text_of(alloc, change, &comparison, is_json) {
+    match text_of(alloc, change, &comparison, texts, form) {
         Ok(text) => Ok(Answer {
             text,
             is_accepted: comparison.is_empty(),
@@ -97,11 +123,15 @@ fn answer_of<'a, F: Files>(alloc: Global, files: &F, wanted: Wanted<'a>) -> Resu
     let old = site_of(alloc, files, wanted.old)?;
     let new = site_of(alloc, files, wanted.new)?;
     let change = Change {
-        old: &old,
-        new: &new,
+        old: &old.site,
+        new: &new.site,
         renames: wanted.renames,
     };
-    match said(alloc, change, wanted.is_json) {
+    let texts = Texts {
+        old: &old.texts,
+        new: &new.texts,
+    };
+    match said(alloc, change, texts, wanted.form) {
         Ok(answer) => Ok(answer),
         Err(halt) => Err(Stop { file: None, halt }),
     }

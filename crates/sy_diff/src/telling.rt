@@ -3,11 +3,20 @@
 use crate::comparison::{Change, Comparison};
 use crate::differences::{Difference, OfArchive, Sign, Thing, differences_of, findings_of};
 use std::alloc::{AllocError, Global};
+use sy_findings::notes::instances::instance_words;
 use sy_findings::verdicts::instances::Instance;
 use sy_findings::verdicts::tally::{head_of, names_of, push_instance};
 use sy_fit::protected_classes;
+use sy_places::site_file::texts::SiteTexts;
 use sy_report::texts::parts::{Part, action_name, append_parts, input_part, relay_name};
 use sy_site::{Site, SiteAction, SiteInput};
+
+/// The texts of the files of both sites.
+#[derive(Clone, Copy)]
+pub struct Texts<'a> {
+    pub old: &'a SiteTexts<'a>,
+    pub new: &'a SiteTexts<'a>,
+}
 
 /// The word of a sign.
 pub(crate) fn word_of(sign: Sign) -> &'static [u8] {
@@ -85,6 +94,25 @@ fn append_difference(
     }
 }
 
+// Where a finding is, why messages are lost by it, and what would change that.
+fn append_words(
+    alloc: Global,
+    text: &mut Vec<u8>,
+    difference: &Difference<'_>,
+    texts: Texts<'_>,
+) -> Result<(), AllocError> {
+    let Thing::Finding(instance) = &difference.thing else {
+        return Ok(());
+    };
+    let of_site = if difference.sign == Sign::Gone {
+        texts.old
+    } else {
+        texts.new
+    };
+    let words = instance_words(alloc, of_site, difference.site, instance)?;
+    text.extend_from_slice(words.as_slice())
+}
+
 // What a check says of the new site.
 fn append_verdict(
     alloc: Global,
@@ -109,11 +137,12 @@ fn append_verdict(
 }
 
 /// What is told of a change: whether it is worse, in the first line, what a check says of the new site, what was lost and is found since,
-/// a line each, and what else is another.
+/// a line each, and what else is another. Where texts are given, words on each finding stand behind its line.
 pub fn told(
     alloc: Global,
     change: Change<'_>,
     comparison: &Comparison,
+    texts: Option<Texts<'_>>,
 ) -> Result<Vec<u8>, AllocError> {
     let mut text = Vec::new(alloc);
     let is_worse = !comparison.is_empty();
@@ -122,6 +151,9 @@ pub fn told(
     append_verdict(alloc, &mut text, change.new, after.as_slice())?;
     for difference in &differences_of(alloc, change, comparison, after.as_slice())? {
         append_difference(alloc, &mut text, difference)?;
+        if let Some(texts) = texts {
+            append_words(alloc, &mut text, difference, texts)?;
+        }
     }
     Ok(text)
 }

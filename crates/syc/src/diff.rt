@@ -6,7 +6,7 @@ use crate::usage::refusal;
 use crate::wrong_words::refuse;
 use std::alloc::{AllocError, Global};
 use sy_diff::comparison::Rename;
-use sy_diff::diff::{Wanted, diff};
+use sy_diff::diff::{Form, Wanted, diff};
 use sy_report::command_line::command::{is_plain, is_word};
 use sy_report::command_line::options::all_words;
 use sy_report::outcome::stop::out_of_memory;
@@ -19,7 +19,7 @@ use sy_wire::Sink;
 struct Words<'a> {
     names: Vec<&'a str>,
     renames: Vec<Rename<'a>>,
-    is_json: bool,
+    form: Form,
 }
 
 /// Whether the words, those after the program's name, begin with that command.
@@ -39,11 +39,23 @@ pub(crate) fn rename_of(word: &str) -> Option<Rename<'_>> {
     })
 }
 
+// The form that is asked for: a document has no words on findings.
+fn form_of(is_explained: bool, is_json: bool) -> Form {
+    if is_json {
+        return Form::Document;
+    }
+    if is_explained {
+        return Form::Explained;
+    }
+    Form::Lines
+}
+
 // What the words behind that of the command say; nothing where they are faulty.
 fn words_of<'a>(alloc: Global, args: &[&'a str]) -> Result<Option<Words<'a>>, AllocError> {
     let mut names = Vec::new(alloc);
     let mut renames = Vec::new(alloc);
     let mut is_rename = false;
+    let mut is_explained = false;
     let mut is_json = false;
     for word in args {
         if is_rename {
@@ -54,6 +66,8 @@ fn words_of<'a>(alloc: Global, args: &[&'a str]) -> Result<Option<Words<'a>>, Al
             is_rename = false;
         } else if is_word(word, "--rename") {
             is_rename = true;
+        } else if is_word(word, "--explain") && !is_explained {
+            is_explained = true;
         } else if is_word(word, "--json") && !is_json {
             is_json = true;
         } else if is_plain(word) {
@@ -68,7 +82,7 @@ fn words_of<'a>(alloc: Global, args: &[&'a str]) -> Result<Option<Words<'a>>, Al
     Ok(Some(Words {
         names,
         renames,
-        is_json,
+        form: form_of(is_explained, is_json),
     }))
 }
 
@@ -95,7 +109,7 @@ pub fn diff_of_words<W: Sink, E: Sink, F: Files>(
             Words {
                 names,
                 renames,
-                is_json,
+                form,
             },
         ) => {
             let (Some(old), Some(new)) = (names.first(), names.get(1)) else {
@@ -105,7 +119,7 @@ pub fn diff_of_words<W: Sink, E: Sink, F: Files>(
                 old: *old,
                 new: *new,
                 renames: renames.as_slice(),
-                is_json,
+                form,
             };
             diff(alloc, files, wanted, out)
         }

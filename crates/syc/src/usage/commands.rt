@@ -12,6 +12,9 @@ const SITE: &str =
 const EXPLAIN: &str =
     "Explain what is found, or the fault: where it stands, why, and what to change";
 
+const EXPLAIN_FOUND: &str =
+    "Explain what is found since, or isn't any more: where it stands, why, and what to change";
+
 const ALL: &str =
     "List every finding, with the classes that it affects, and every fault, in place of the first";
 
@@ -197,7 +200,7 @@ pub static COMMANDS: [(&str, &str, &[(&str, &str)], &[(&str, &str)], &str); 11] 
         "diff",
         "Say whether a site is worse than the one before a change",
         &[("OLD", OLD), ("NEW", NEW)],
-        &[("json", JSON)],
+        &[("explain", EXPLAIN_FOUND), ("json", JSON)],
         DIFF_BEHIND,
     ),
     (
