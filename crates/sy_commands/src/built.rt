@@ -1,5 +1,7 @@
 //! How the program was built: a record at the end of its own file, which `bin/build` puts there.
-ghost use Rattle.std.specs.Prelude.{◌≡◌, ◌≢◌, ◌++◌, ℕ, List, MatchOption};
+ghost use Rattle.std.specs.Prelude.{◌≡◌, ◌≢◌, ◌++◌, ℕ, List, MatchOption, drop, length, nat_eq};
+ghost use Rattle.std.specs.List.{find, starts_with};
+ghost use Rattle.std.specs.Option.{option_map};
 ghost use Rattle.sy_commands.specs.Built as spec;
 
 use std::alloc::{AllocError, Global};
@@ -31,14 +33,30 @@ pub fn record_lines(end: &[u8]) -> Option<&[u8]>
     behind(end, b"syc-build 1\n")
 }
 
+// The first line that begins with a name.
+fn line_named<'a>(lines: &'a [u8], name: &[u8]) -> Option<&'a [u8]>
+    ensures { option_map (λ line. line.now) result ≡ find (λ line. starts_with nat_eq line name.now) (spec.lines_of lines.now) }
+{
+    lines
+        .split(|byte| *byte == b'\n')
+        .find(|line| line.starts_with(name))
+}
+
+// A line without the name that it begins with.
+fn without<'a>(line: &'a [u8], name: &[u8]) -> &'a [u8]
+    ensures { result.now ≡ drop (length name.now) line.now }
+{
+    line.get(name.len()..).unwrap_or(&[])
+}
+
 /// What a record says by a line of this name; none where it has no such line.
-pub fn value_of<'a>(lines: &'a [u8], name: &[u8]) -> Option<&'a [u8]> {
-    for line in lines.split(|byte| *byte == b'\n') {
-        if let Some(value) = behind(line, name) {
-            return Some(value);
-        }
+pub fn value_of<'a>(lines: &'a [u8], name: &[u8]) -> Option<&'a [u8]>
+    ensures { option_map (λ value. value.now) result ≡ spec.value_of lines.now name.now }
+{
+    match line_named(lines, name) {
+        Some(line) => Some(without(line, name)),
+        None => None,
     }
-    None
 }
 
 // The last bytes of two texts, the second behind the first.

@@ -3,3 +3,4 @@ pub mod Prepared
 pub mod Optioned
 pub mod CommandReports
 pub mod Examples
+pub mod internal

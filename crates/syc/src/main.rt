@@ -99,7 +99,7 @@ fn main(rt: HostRuntime) -> ExitCode {
         let files = HostFiles::new(&rt, Kinds::Regular);
         return ExitCode::from(tell_version(rt.alloc(), words.as_slice(), &files, &mut out));
     }
-    if is_explain(words.as_slice()) {
+    if is_explain(rt.alloc(), words.as_slice()) {
         return ExitCode::from(explain(rt.alloc(), words.as_slice(), &mut out));
     }
     if is_diff(words.as_slice()) {

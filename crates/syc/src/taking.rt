@@ -1,4 +1,6 @@
 //! Options that are taken out of the words before these are read.
+ghost use Rattle.std.specs.Prelude.{Decides, map, string_bytes};
+ghost use Rattle.syc.specs.Words.{BeginWith};
 
 use sy_report::command_line::command::is_word;
 
@@ -28,7 +30,9 @@ pub fn take_option(words: &mut Vec<String>, option: &str) -> bool {
 }
 
 /// Whether the first word is this one.
-pub fn is_first(words: &[String], wanted: &str) -> bool {
+pub fn is_first(words: &[String], wanted: &str) -> bool
+    ensures { Decides result (BeginWith wanted.now (map string_bytes words.now)) }
+{
     match words.first() {
         Some(word) => is_word(word.as_str(), wanted),
         None => false,

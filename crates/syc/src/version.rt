@@ -1,5 +1,6 @@
 //! The version, and how the program was built.
-ghost use Rattle.std.specs.Prelude.{◌≤◌};
+ghost use Rattle.std.specs.Prelude.{◌≤◌, ◌⊎◌, Decides, codes, map, string_bytes};
+ghost use Rattle.syc.specs.Words.{BeginWith};
 ghost use Rattle.syc.specs.CommandReports.{Shows};
 
 use crate::taking::is_first;
@@ -14,7 +15,9 @@ use sy_report::writing::outputs::Outputs;
 use sy_wire::Sink;
 
 /// Whether the words, those after the program's name, ask for the version.
-pub fn is_version(args: &[String]) -> bool {
+pub fn is_version(args: &[String]) -> bool
+    ensures { Decides result (BeginWith (codes "-V") (map string_bytes args.now) ⊎ BeginWith (codes "--version") (map string_bytes args.now)) }
+{
     is_first(args, "-V") || is_first(args, "--version")
 }
 
