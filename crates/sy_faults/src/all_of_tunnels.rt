@@ -61,8 +61,10 @@ pub fn find_tunnels(
     if !hunt.found.is_empty() {
         return Ok(());
     }
-    let Ok(site) = Site::read(alloc, hunt.draft.text(), given) else {
-        return Ok(());
+    let site = match Site::read(alloc, hunt.draft.text(), given) {
+        Ok(site) => site,
+        Err(SiteFault::NoMemory) => return Err(AllocError),
+        Err(_) => return Ok(()),
     };
     let mut left = Vec::from_slice(alloc, text)?;
     for _ in 0..MOST_FAULTS {
