@@ -39,15 +39,20 @@ fn stops_of(alloc: Global, it: Surveyed<'_>, row: &Row) -> Elements {
     }
 }
 
-// A finding of a host.
-fn finding_of(alloc: Global, it: Surveyed<'_>, row: &Row) -> Result<Members, AllocError> {
+// A finding of a host at a place.
+fn finding_of(
+    alloc: Global,
+    it: Surveyed<'_>,
+    row: &Row,
+    place: Located,
+) -> Result<Members, AllocError> {
     let subject = row.subject.of(it.whole.text.as_slice());
     let mut members = Members::new(alloc);
     members.number_if_any("kind", kind_of(row.what));
     members.text("name", word_of(row.what));
     members.text("subject", subject);
     members.array("classes", class_names(alloc, row.classes.as_slice())?);
-    insert_place(&mut members, it.whole, Located::of(it.whole, row.at));
+    insert_place(&mut members, it.whole, place);
     members.text("why", why_of(row.what));
     members.array("stops", stops_of(alloc, it, row));
     members.text("change", change_of(row.what, subject));
@@ -80,8 +85,10 @@ pub(crate) fn host_of(
     is_accepted: bool,
 ) -> Result<Members, AllocError> {
     let mut findings = Elements::new(alloc);
+    let mut last = Located::none(0);
     for row in rows {
-        findings.object(finding_of(alloc, it, row)?);
+        last = last.go_on(it.whole, it.whole.place(row.at));
+        findings.object(finding_of(alloc, it, row, last)?);
     }
     let mut taken = Elements::new(alloc);
     for assumption in &ASSUMPTIONS {
@@ -135,8 +142,7 @@ fn one(alloc: Global, members: Members) -> Elements {
 }
 
 // Where a result is.
-fn location_of(alloc: Global, it: Surveyed<'_>, at: usize) -> Result<Members, AllocError> {
-    let place = Located::of(it.whole, at);
+fn location_of(alloc: Global, it: Surveyed<'_>, place: Located) -> Result<Members, AllocError> {
     let file = it.whole.source(place.source).0;
     let mut artifact = Members::new(alloc);
     artifact.text("uri", uri_of(alloc, file)?.as_slice());
@@ -171,13 +177,18 @@ fn message_of(alloc: Global, it: Surveyed<'_>, row: &Row) -> Result<Members, All
     Ok(message)
 }
 
-/// A finding as a result of SARIF.
-pub(crate) fn result_of(alloc: Global, it: Surveyed<'_>, row: &Row) -> Result<Members, AllocError> {
+/// A finding at a place as a result of SARIF.
+pub(crate) fn result_of(
+    alloc: Global,
+    it: Surveyed<'_>,
+    row: &Row,
+    place: Located,
+) -> Result<Members, AllocError> {
     let mut result = Members::new(alloc);
     result.text("ruleId", word_of(row.what));
     result.text("level", b"warning");
     result.object("message", message_of(alloc, it, row)?);
-    result.array("locations", one(alloc, location_of(alloc, it, row.at)?));
+    result.array("locations", one(alloc, location_of(alloc, it, place)?));
     Ok(result)
 }
 

@@ -23,12 +23,6 @@ impl Located {
         }
     }
 
-    /// The place of a byte of the whole text.
-    pub fn of(whole: &Whole, at: usize) -> Located {
-        let place = whole.place(at);
-        Located::none(place.source).go_on(whole, place)
-    }
-
     /// Another place: counted on from this one where it comes behind it in the same file.
     pub fn go_on(self, whole: &Whole, place: Place) -> Located {
         let is_behind = self.line > 0 && self.source == place.source && self.at <= place.at;

@@ -1,6 +1,7 @@
 //! What a survey of all hosts says: after each host its lines, or at its end a document, and what one change would mend where.
 
 use crate::documents::{host_of, result_of, sarif_of, unjudged};
+use crate::located::Located;
 use crate::ranks::{Ranks, append_rank, elements_of, places_of};
 use crate::rows::Row;
 use crate::telling::{Surveyed, lines_of};
@@ -68,8 +69,10 @@ impl Report {
                 self.elements.object(host);
             }
             Form::Sarif => {
+                let mut last = Located::none(0);
                 for row in rows {
-                    let result = result_of(self.alloc, it, row)?;
+                    last = last.go_on(it.whole, it.whole.place(row.at));
+                    let result = result_of(self.alloc, it, row, last)?;
                     self.elements.object(result);
                 }
             }

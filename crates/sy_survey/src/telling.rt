@@ -18,8 +18,7 @@ pub(crate) struct Surveyed<'a> {
 }
 
 // A place: the file, the line and the column.
-fn append_place(out: &mut Vec<u8>, it: Surveyed<'_>, at: usize) -> Result<(), AllocError> {
-    let place = Located::of(it.whole, at);
+fn append_place(out: &mut Vec<u8>, it: Surveyed<'_>, place: Located) -> Result<(), AllocError> {
     append_printed(out, it.whole.source(place.source).0)?;
     append_parts(
         out,
@@ -65,15 +64,16 @@ fn append_line(
     append_parts(out, &[Part::Number(next.line)])
 }
 
-// Puts the lines of a finding behind a text.
+// Puts the lines of a finding at a place behind a text.
 fn append_row(
     alloc: Global,
     out: &mut Vec<u8>,
     it: Surveyed<'_>,
     row: &Row,
+    place: Located,
 ) -> Result<(), AllocError> {
     let subject = row.subject.of(it.whole.text.as_slice());
-    append_place(out, it, row.at)?;
+    append_place(out, it, place)?;
     if let Some(kind) = kind_of(row.what) {
         append_parts(out, &[Part::Number(kind), Part::Text(b" ")])?;
     }
@@ -227,8 +227,10 @@ pub(crate) fn lines_of(
 ) -> Result<Vec<u8>, AllocError> {
     let mut text = Vec::new(alloc);
     append_head(&mut text, it, rows.len(), classes)?;
+    let mut last = Located::none(0);
     for row in rows {
-        append_row(alloc, &mut text, it, row)?;
+        last = last.go_on(it.whole, it.whole.place(row.at));
+        append_row(alloc, &mut text, it, row, last)?;
     }
     append_notes(alloc, &mut text, it)?;
     Ok(text)
