@@ -1,5 +1,6 @@
 //! The command that says whether a site is worse than the one before: its words.
-ghost use Rattle.std.specs.Prelude.{◌≤◌};
+ghost use Rattle.std.specs.Prelude.{◌≤◌, Decides, codes, map, string_bytes};
+ghost use Rattle.syc.specs.Words.{BeginWith};
 
 use crate::taking::is_first;
 use crate::usage::refusal;
@@ -23,7 +24,9 @@ struct Words<'a> {
 }
 
 /// Whether the words, those after the program's name, begin with that command.
-pub fn is_diff(args: &[String]) -> bool {
+pub fn is_diff(args: &[String]) -> bool
+    ensures { Decides result (BeginWith (codes "diff") (map string_bytes args.now)) }
+{
     is_first(args, "diff")
 }
 
