@@ -106,6 +106,7 @@ _syc_offer_options() {
     certify | verify | replay) _syc_offer --explain --json --any-file ;;
     diff) _syc_offer --explain --json --rename --any-file ;;
     survey) _syc_offer --protect --root --strict --json --sarif --any-file ;;
+    convert) _syc_offer --protect --root --any-file ;;
     graph) _syc_offer --full --class --any-file ;;
     unread) _syc_offer --repair ;;
     syc-run) _syc_offer --resend ;;&
@@ -139,7 +140,7 @@ _syc() {
         _syc_offer_options "$command"
     else
         case $command-$places in
-        -0 | help-0) _syc_offer pass check certify verify replay diff survey run unread graph explain help ;;
+        -0 | help-0) _syc_offer pass check certify verify replay diff survey convert run unread graph explain help ;;
         explain-0) _syc_offer kind ;;
         run-1 | syc-run-1) _syc_offer_relays ;;
         *-0 | verify-1 | replay-1 | diff-1 | survey-*) if [[ $command != pass && $command != explain ]]; then _syc_offer_files; fi ;;

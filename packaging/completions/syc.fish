@@ -78,6 +78,7 @@ for condition in __syc_wants_command '__syc_at 0 help'
     complete -c syc -n $condition -f -a replay -d 'Make the events of a file at a site'
     complete -c syc -n $condition -f -a diff -d 'Say whether a site is worse than before'
     complete -c syc -n $condition -f -a survey -d 'Say where rsyslogd may lose messages'
+    complete -c syc -n $condition -f -a convert -d 'Print a configuration of rsyslogd for a relay'
     complete -c syc -n $condition -f -a run -d 'Check a site, and run one of its relays'
     complete -c syc -n $condition -f -a unread -d 'Say what a file of run --unread has'
     complete -c syc -n $condition -f -a graph -d 'Print a site as a graph, for Graphviz'
@@ -86,9 +87,9 @@ for condition in __syc_wants_command '__syc_at 0 help'
 end
 
 for command in syc syc-run
-    complete -c $command -n '__syc_is pass check certify verify replay diff survey run unread graph explain syc-run' -s h -l help -d 'Print help'
+    complete -c $command -n '__syc_is pass check certify verify replay diff survey convert run unread graph explain syc-run' -s h -l help -d 'Print help'
     complete -c $command -n '__syc_is check certify verify replay diff run syc-run' -l explain -d 'Explain what is found, or the fault'
-    complete -c $command -n '__syc_is check certify verify replay diff survey graph run syc-run' -l any-file -d 'Read FIFOs and devices too'
+    complete -c $command -n '__syc_is check certify verify replay diff survey convert graph run syc-run' -l any-file -d 'Read FIFOs and devices too'
     complete -c $command -n '__syc_is check run syc-run' -l strict -d 'Refuse a site that has warnings too'
     complete -c $command -n '__syc_is run syc-run' -l unchecked -d 'Run it without a check'
     complete -c $command -n '__syc_is run syc-run' -l left -rF -d 'Write what it still holds at its end'
@@ -103,8 +104,8 @@ complete -c syc-run -l resend -d 'Send what earlier stops left'
 complete -c syc -n '__syc_is check' -l all -d 'List every finding and every fault'
 complete -c syc -n '__syc_is check certify verify replay diff survey' -l json -d 'Print one JSON document'
 complete -c syc -n '__syc_is diff' -l rename -x -d 'A relay that has another name'
-complete -c syc -n '__syc_is survey' -l protect -x -d 'The classes that are asked for'
-complete -c syc -n '__syc_is survey' -l root -rF -d 'Look for what comes behind it below this folder'
+complete -c syc -n '__syc_is survey convert' -l protect -x -d 'The classes that are asked for'
+complete -c syc -n '__syc_is survey convert' -l root -rF -d 'Look for what comes behind it below this folder'
 complete -c syc -n '__syc_is survey' -l sarif -d 'Print a document of SARIF 2.1.0'
 complete -c syc -n '__syc_is survey' -l strict -d 'Refuse what is taken for granted too'
 complete -c syc -n '__syc_is graph' -l full -d 'Draw each relay in full'
@@ -112,5 +113,5 @@ complete -c syc -n '__syc_is graph' -l class -x -a '(__syc_classes)' -d 'Draw wh
 complete -c syc -n '__syc_is unread' -l repair -d 'Write what a repair makes messages'
 complete -c syc -n '__syc_at 0 explain' -f -a kind -d 'A kind of finding'
 complete -c syc -n '__syc_past 0 pass explain' -f
-complete -c syc -n '__syc_past 1 check certify graph unread help' -f
+complete -c syc -n '__syc_past 1 check certify convert graph unread help' -f
 complete -c syc -n '__syc_past 2 verify replay diff' -f

@@ -15,6 +15,7 @@ SAID = {
     "site": rb"syc: (%s in line \d+|%s at \d+:\d+ of [^ \n]+|%s of [^ \n]+: [^\x00-\x1f\x7f]*|read failed|illegal event in line \d+|86 TotalsFull in line \d+)\n"
     % (FAULT, FAULT, FAULT),
     # (a plan above the profile's limits is told as a site's file is)
+    "convert": rb"syc: [^\n]+:\d+:\d+: not read: [^\n]+\n|syc: of [^\n]+:\nsyc: [^\n]+\n|syc: %s (at \d+:\d+ of host|of host: [^\x00-\x1f\x7f]*)\n" % FAULT,
     "survey": rb"syc: [^\n]+:\d+:\d+: not read: [^\n]+\n|syc: of [^\n]+:\nsyc: [^\n]+\n",
 }
 

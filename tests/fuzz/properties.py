@@ -61,18 +61,37 @@ def of_site(runner, random, files):
 
 def named_alike(told):
     """What is told of a configuration, whether by itself or by another file that includes it: of stops the lines alone, since
-    those of another file than the input's have its name."""
+    those of another file than the input's have its name; and nothing of where a text ends within something, which is the end of
+    the file that includes it."""
+    told = re.sub(rb"(?m)^syc: [^\n]*: (?=not read: the text ends within)", b"", told)
     told = told.replace(b"./host.conf", b"fleet.conf").replace(b"./fleet.conf", b"fleet.conf")
     return re.sub(rb"; stops: [^\n]*", lambda it: b" ".join(re.findall(rb"\d+", it[0])), told)
 
 
+def of_conversion(runner, text):
+    """What is made of that configuration for a relay: what stands at its end is what `check` says of the site there, with all that
+    was printed as the relay's file."""
+    made = runner.run("convert", "fleet.conf")
+    if made.status > 1:
+        return
+    site = b"".join(it + b"\n" for it in re.findall(rb"(?m)^#   ((?:relay|entry|protect) [^\n]*)$", made.out.rsplit(b"\n# A site file for", 1)[-1]))
+    if b"\n# A site file for" not in made.out:
+        hold(made.status == 1 and made.out.endswith(b"let syc check read that.\n"), f"convert ended with {made.status} and wrote {made.out[-200:]!r}")
+        return
+    runner.put({"fleet.conf": text, "plan": made.out, "site": site})
+    checked = runner.run("check", "site")
+    hold(checked.status <= made.status, f"check ends with {checked.status}, convert with {made.status}")
+    hold(made.out.endswith(b"\n#   " + checked.out), f"check says {checked.out!r}, convert {made.out[-200:]!r}")
+
+
 def of_fleet(runner, text):
     """A configuration of rsyslogd: its lines are of the documented form, its document has the same findings, and it is judged
-    the same where another file includes it."""
+    the same where another file includes it. What a relay is made of it is judged as it says."""
     runner.put({"fleet.conf": text, "host.conf": b'include(file="/fleet.conf")\n'})
     alone = runner.run("survey", "fleet.conf")
     included = runner.run("survey", "--root", ".", "/host.conf")
     told = [named_alike(it) for it in (included.out, included.said)]
+    of_conversion(runner, text)
     hold((included.status, *told) == (alone.status, *map(named_alike, alone[1:])),
          f"another answer where it is included: {included.status} {told[0][:300]!r} {told[1][:99]!r}")
     if alone.status > 1:

@@ -1,3 +1,4 @@
+pub mod Converting
 pub mod Surveys
 pub mod Together
 pub mod internal

@@ -2,6 +2,7 @@
 #![tactic(auto)]
 
 mod confirming;
+pub mod converting;
 mod documents;
 pub mod folders;
 mod gathering;

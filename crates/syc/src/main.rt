@@ -38,7 +38,7 @@ use std::sync::{Arc, Wait};
 use std::thread::Threads;
 use std::time::Clock;
 use strict::{refuse_warnings, run_strictly, take_strict};
-use survey::{is_survey, survey_of_words};
+use survey::{convert_of_words, is_convert, is_survey, survey_of_words};
 use sy_board::Guard;
 use sy_commands::wanted_row::explain_unfit;
 use sy_endpoints::outlets::{Outlet, outlets};
@@ -76,7 +76,7 @@ const ERROR_BUFFER: usize = 512;
 
 type HostOutputs = Outputs<Buffered<FromWrite<Stdout>>, FromWrite<BufWriter<Stderr>>>;
 
-// Surveys configurations of rsyslogd that are files of the host.
+// Surveys configurations of rsyslogd that are files of the host, or converts one.
 fn survey_files(rt: &HostRuntime, words: &[String], kinds: Kinds, out: &mut HostOutputs) -> u8 {
     let files = HostFiles::new(rt, kinds);
     let folders = HostFolders::new(rt);
@@ -84,6 +84,9 @@ fn survey_files(rt: &HostRuntime, words: &[String], kinds: Kinds, out: &mut Host
         files: &files,
         folders: &folders,
     };
+    if is_convert(words) {
+        return convert_of_words(rt.alloc(), words, &tree, out);
+    }
     survey_of_words(rt.alloc(), words, &tree, out)
 }
 
@@ -106,7 +109,7 @@ fn main(rt: HostRuntime) -> ExitCode {
         let files = HostFiles::new(&rt, kinds);
         return ExitCode::from(diff_of_words(rt.alloc(), words.as_slice(), &files, &mut out));
     }
-    if is_survey(words.as_slice()) {
+    if is_survey(words.as_slice()) || is_convert(words.as_slice()) {
         return ExitCode::from(survey_files(&rt, words.as_slice(), kinds, &mut out));
     }
     if is_unread(words.as_slice()) {

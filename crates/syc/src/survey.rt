@@ -1,5 +1,6 @@
-//! The command that says where rsyslogd may lose messages by its own configurations: its words.
-ghost use Rattle.std.specs.Prelude.{◌≤◌};
+//! The commands over configurations of rsyslogd, which say where it may lose messages by them, and carry one over: their words.
+ghost use Rattle.std.specs.Prelude.{◌≤◌, Decides, codes, map, string_bytes};
+ghost use Rattle.syc.specs.Words.{BeginWith};
 
 use crate::taking::is_first;
 use crate::usage::refusal;
@@ -10,6 +11,7 @@ use sy_report::command_line::options::all_words;
 use sy_report::outcome::stop::out_of_memory;
 use sy_report::reading::files::Files;
 use sy_report::writing::outputs::Outputs;
+use sy_survey::converting::convert;
 use sy_survey::folders::Folders;
 use sy_survey::report::Form;
 use sy_survey::selected::{DEFAULT, is_selector, selector_text};
@@ -43,8 +45,17 @@ enum Next {
 }
 
 /// Whether the words, those after the program's name, begin with that command.
-pub fn is_survey(args: &[String]) -> bool {
+pub fn is_survey(args: &[String]) -> bool
+    ensures { Decides result (BeginWith (codes "survey") (map string_bytes args.now)) }
+{
     is_first(args, "survey")
+}
+
+/// Whether they begin with the command that carries a configuration over.
+pub fn is_convert(args: &[String]) -> bool
+    ensures { Decides result (BeginWith (codes "convert") (map string_bytes args.now)) }
+{
+    is_first(args, "convert")
 }
 
 // The form of a document that a word asks for.
@@ -173,9 +184,17 @@ fn selector_of(alloc: Global, classes: Option<&str>) -> Result<Option<Vec<u8>>, 
     Ok(None)
 }
 
-// Surveys these hosts.
-fn survey_hosts<W: Sink, E: Sink, F: Files, D: Folders>(
+// The command of which the words are.
+#[derive(Clone, Copy, PartialEq, Eq)]
+enum Command {
+    Survey,
+    Convert,
+}
+
+// Does it with these hosts.
+fn with_hosts<W: Sink, E: Sink, F: Files, D: Folders>(
     alloc: Global,
+    command: Command,
     words: &Words<'_>,
     selector: &[u8],
     tree: &Tree<'_, F, D>,
@@ -189,6 +208,9 @@ fn survey_hosts<W: Sink, E: Sink, F: Files, D: Folders>(
     let Ok(hosts) = hosts_of(alloc, words.hosts.as_slice(), paths.as_slice()) else {
         return out_of_memory(&mut out.errors);
     };
+    if let (Command::Convert, Some(host)) = (command, hosts.first()) {
+        return convert(alloc, tree, *host, selector, out);
+    }
     let wanted = Wanted {
         hosts: hosts.as_slice(),
         selector,
@@ -198,9 +220,10 @@ fn survey_hosts<W: Sink, E: Sink, F: Files, D: Folders>(
     survey(alloc, tree, wanted, out)
 }
 
-// Surveys the configurations that the words name.
-fn survey_words<W: Sink, E: Sink, F: Files, D: Folders>(
+// Does it with the configurations that the words name.
+fn with_words<W: Sink, E: Sink, F: Files, D: Folders>(
     alloc: Global,
+    command: Command,
     all: &[&str],
     words: &Words<'_>,
     tree: &Tree<'_, F, D>,
@@ -209,8 +232,42 @@ fn survey_words<W: Sink, E: Sink, F: Files, D: Folders>(
     ensures { result ≤ 4 }
 {
     match selector_of(alloc, words.classes) {
-        Ok(Some(selector)) => survey_hosts(alloc, words, selector.as_slice(), tree, out),
+        Ok(Some(selector)) => with_hosts(alloc, command, words, selector.as_slice(), tree, out),
         Ok(None) => refuse(alloc, out, &refusal(alloc, all)),
+        Err(_) => out_of_memory(&mut out.errors),
+    }
+}
+
+// Whether the words may be those of the command: what is converted is one file, without a form or assumptions.
+fn may_be(command: Command, words: &Words<'_>) -> bool {
+    match command {
+        Command::Survey => true,
+        Command::Convert => {
+            words.hosts.len() == 1 && !words.is_strict && words.form == Form::Text
+        }
+    }
+}
+
+// Does what the words say.
+fn by_words<W: Sink, E: Sink, F: Files, D: Folders>(
+    alloc: Global,
+    command: Command,
+    args: &[String],
+    tree: &Tree<'_, F, D>,
+    out: &mut Outputs<W, E>,
+) -> u8
+    ensures { result ≤ 4 }
+{
+    let Ok(all) = all_words(alloc, args) else {
+        return out_of_memory(&mut out.errors);
+    };
+    // (the program's name and that of the command stand before them)
+    let behind = all.as_slice().get(2..).unwrap_or(&[]);
+    match words_of(alloc, behind) {
+        Ok(Some(words)) if may_be(command, &words) => {
+            with_words(alloc, command, all.as_slice(), &words, tree, out)
+        }
+        Ok(_) => refuse(alloc, out, &refusal(alloc, all.as_slice())),
         Err(_) => out_of_memory(&mut out.errors),
     }
 }
@@ -225,14 +282,18 @@ pub fn survey_of_words<W: Sink, E: Sink, F: Files, D: Folders>(
 ) -> u8
     ensures { result ≤ 4 }
 {
-    let Ok(all) = all_words(alloc, args) else {
-        return out_of_memory(&mut out.errors);
-    };
-    // (the program's name and that of the command stand before them)
-    let behind = all.as_slice().get(2..).unwrap_or(&[]);
-    match words_of(alloc, behind) {
-        Ok(Some(words)) => survey_words(alloc, all.as_slice(), &words, tree, out),
-        Ok(None) => refuse(alloc, out, &refusal(alloc, all.as_slice())),
-        Err(_) => out_of_memory(&mut out.errors),
-    }
+    by_words(alloc, Command::Survey, args, tree, out)
+}
+
+/// Carries the configuration that the words name over to a relay, and answers the exit status: 0 the whole of it, and it is accepted, 1
+/// something is left out or found, 2 a faulty text or faulty words, 3 out of memory, 4 a read or a write failed.
+pub fn convert_of_words<W: Sink, E: Sink, F: Files, D: Folders>(
+    alloc: Global,
+    args: &[String],
+    tree: &Tree<'_, F, D>,
+    out: &mut Outputs<W, E>,
+) -> u8
+    ensures { result ≤ 4 }
+{
+    by_words(alloc, Command::Convert, args, tree, out)
 }

@@ -109,7 +109,7 @@ fn with_values<'a>(
     if is_word(word, "graph") {
         return with_value(alloc, parser, "class", "CLASS", CLASS);
     }
-    if is_word(word, "survey") {
+    if is_word(word, "survey") || is_word(word, "convert") {
         let parser = with_value(alloc, parser, "protect", "SELECTOR", PROTECT);
         return with_value(alloc, parser, "root", "DIR", ROOT);
     }

@@ -58,6 +58,18 @@ const SURVEY_BEHIND: &str = "Exit status, of several files the greatest:
 Example:
   syc survey --root / /etc/rsyslog.conf";
 
+const CONVERTED: &str = "A configuration of rsyslogd; without --root what it includes isn't read";
+
+const CONVERT_BEHIND: &str = "Exit status:
+  0  the whole is carried over, and syc check accepts it
+  1  something is left out by which messages may be lost, or it is refused
+  2  the text isn't read, or the command line is faulty
+  3  out of memory
+  4  a read or a write failed
+
+Example:
+  syc convert --root / /etc/rsyslog.conf >plan";
+
 const PASS_BEHIND: &str = "Exit status:
   0  all messages were written
   2  the input is faulty, or the command line is
@@ -155,7 +167,7 @@ Examples:
   syc explain SharedWorker";
 
 /// The commands: the word of each, what it does, its names and options with what they mean, and the end of its help.
-pub static COMMANDS: [(&str, &str, &[(&str, &str)], &[(&str, &str)], &str); 11] = [
+pub static COMMANDS: [(&str, &str, &[(&str, &str)], &[(&str, &str)], &str); 12] = [
     (
         "pass",
         "Read messages in octet-counted frames from standard input and write one line a message",
@@ -209,6 +221,13 @@ pub static COMMANDS: [(&str, &str, &[(&str, &str)], &[(&str, &str)], &str); 11] 
         &[(CONFIG, CONFIGS)],
         &[("strict", ASSUMED), ("json", JSON), ("sarif", SARIF)],
         SURVEY_BEHIND,
+    ),
+    (
+        "convert",
+        "Print a relay's configuration made of one of rsyslogd, and what can't be carried over",
+        &[("FILE", CONVERTED)],
+        &[],
+        CONVERT_BEHIND,
     ),
     (
         "run",
