@@ -6,8 +6,9 @@ from room import Failure, same, test
 COUNT, LAST = 60, 999
 
 
-def passes_over(room, name, more=""):
-    """All messages are written to the first file, while the hub isn't there; some of them don't come there then."""
+def passes_over(room, name, more="", first=0):
+    """All messages are written to the first file, while the hub isn't there; some of them don't come there then, and one does
+    that is known, or any."""
     host = Host(room, name, "relp")
     host.give(*range(COUNT), more=more)
     host.wrote("syslog", *range(COUNT))
@@ -15,7 +16,7 @@ def passes_over(room, name, more=""):
     hub.takes_again(host, LAST)
     host.stop()
     came = {it for it in hub.tokens() if it != LAST}
-    if 0 not in came or len(came) > COUNT // 2:
+    if not came or len(came) > COUNT // 2 or first is not None and first not in came:
         raise Failure(f"of {COUNT} messages came {sorted(came)}")
 
 
@@ -36,7 +37,8 @@ def ruleset_queue(room):
 
 @test
 def disk_space(room):
-    passes_over(room, "queues/disk_space", f" for {'u' * 200}")
+    # (which of them the disk queue keeps differs from run to run)
+    passes_over(room, "queues/disk_space", f" for {'u' * 200}", first=None)
 
 
 @test
