@@ -67,7 +67,9 @@ def documented(text):
     objects = {re.search(r"`(\w+)`", name)[1]: of_object(cell) for name, cell in table(text, "## Parameters", "| Object |")}
     queues = {name: of_cell(cell, default) for names, cell, default in table(text, "## Parameters", "| Queue parameter |")
               for name in re.findall(r"`(queue\.\w+)`", names)}
-    return {**objects, "Queues": queues}
+    hosts = {of: {plain(name).split(" ")[0]: of_cell(cell) for name, cell, _ in table(text, "### Parameters for the host", first)}
+             for of, first in (("Host of omfile", "| On an action "), ("Host of input", "| On `input`"))}
+    return {**objects, "Queues": queues, **hosts}
 
 
 def of_item(page, body):
@@ -116,6 +118,8 @@ def faulty(program, room, tries):
 
 def values_of(said):
     """Values of a parameter, each with whether the page says that the program takes it."""
+    if "octal" in said["text"]:
+        return [("0640", True), ("0777", True), ("640", False), ("0680", False), ("1640", False)]
     values = [(it, True) for it in said["values"]] + ([("neither", False)] if said["values"] else [])
     found = re.search(r"(-?\d+)(?: \(off\))? to (\d+)", said["text"])
     if found:
@@ -134,7 +138,7 @@ def tries_at(place, parameters):
 
 def tried(program, room, page):
     """What the program takes of what the page says of parameters."""
-    places = {"action": ["omfile"], "Queues": ["main_queue", "ruleset", "omfile"]}
+    places = {"action": ["omfile"], "Queues": ["main_queue", "ruleset", "omfile"], "Host of omfile": ["omfile"], "Host of input": ["input", "module"]}
     tries = [it for name, parameters in on_page(page).items() for place in places.get(name, [name])
              for it in tries_at(place, parameters)]
     starts = range(0, len(tries), 64)

@@ -7,9 +7,10 @@ import signal
 import subprocess
 import threading
 import time
+from shutil import which
 
 from peers import Pump, Sender, message, messages, send_all
-from room import LeftOut, imtcp, is_listening, main_queue, module, omfile, same, test, totals, until
+from room import ANY, LeftOut, imtcp, is_listening, main_queue, module, omfile, same, test, totals, until
 
 
 @test
@@ -74,7 +75,7 @@ def archive_that_ends_in_a_line_feed(room):
 @test
 def one_archive_of_two_actions(room):
     port = room.port()
-    room.site({"hub": module() + imtcp(port) + omfile("one", "audit.log") + omfile("two", "audit.log")},
+    room.site({"hub": module() + imtcp(port) + omfile("one", "audit.log", more=ANY) + omfile("two", "audit.log", more=ANY)},
               f"entry hub {port}", "protect auth.* hub one", "protect auth.* hub two")
     relay = room.start("hub", port)
     send_all(port, messages(50))
@@ -158,7 +159,7 @@ class Pipe:
 @test
 def archive_that_is_a_pipe(room):
     pipe = Pipe(room)
-    relay, port = room.hub()
+    relay, port = room.hub(kind=ANY)
     texts = messages(20_000, text="a" * 100)
     send_all(port, texts)
     pipe.has(texts)
@@ -168,7 +169,7 @@ def archive_that_is_a_pipe(room):
 @test
 def archive_that_is_a_pipe_with_a_slow_reader(room):
     pipe = Pipe(room, pause=0.002)
-    relay, port = room.hub(main_queue(size=1000, fullDelayMark=900))
+    relay, port = room.hub(main_queue(size=1000, fullDelayMark=900), kind=ANY)
     # (the pipe takes 64 KiB at once, and the queue half of what is sent: the sender waits for the reader)
     texts = messages(2000, text="a" * 500)
     send_all(port, texts)
@@ -181,7 +182,7 @@ def archive_that_is_a_pipe_whose_reader_comes_back(room):
     os.mkfifo(room.path("audit.log"))
     first = os.open(room.path("audit.log"), os.O_RDONLY | os.O_NONBLOCK)
     port = room.port()
-    room.site({"hub": module() + imtcp(port) + omfile("audit", "audit.log", -1, 0)}, f"entry hub {port}", "protect auth.* hub audit")
+    room.site({"hub": module() + imtcp(port) + omfile("audit", "audit.log", -1, 0, ANY)}, f"entry hub {port}", "protect auth.* hub audit")
     relay = room.start("hub", port)
     send_all(port, messages(5))
     came = bytearray()
@@ -201,7 +202,7 @@ def archive_that_is_a_pipe_whose_reader_comes_back(room):
 @test
 def archive_is_a_pipe_that_nobody_reads_at_a_stop(room):
     pipe = Pipe(room, reads=False)
-    relay, port = room.hub(main_queue(size=1000, fullDelayMark=900))
+    relay, port = room.hub(main_queue(size=1000, fullDelayMark=900), kind=ANY)
     texts = messages(1000, text="a" * 500)
     sender = Sender(port).send(*texts)
     relay.rests()
@@ -221,7 +222,7 @@ def archive_is_a_pipe_that_nobody_reads_at_a_stop(room):
 
 @test
 def archive_becomes_a_pipe_that_nobody_reads(room):
-    relay, port = room.hub()
+    relay, port = room.hub(kind=ANY)
     send_all(port, messages(1))
     room.holds("audit.log", messages(1))
     os.rename(room.path("audit.log"), room.path("audit.old"))
@@ -242,7 +243,7 @@ def archive_becomes_a_pipe_that_nobody_reads(room):
 def archive_is_a_pipe_that_nobody_reads_before_a_stop(room):
     os.mkfifo(room.path("audit.log"))
     port = room.port()
-    room.site({"hub": module() + imtcp(port) + omfile("audit", "audit.log")}, f"entry hub {port}", "protect auth.* hub audit")
+    room.site({"hub": module() + imtcp(port) + omfile("audit", "audit.log", more=ANY)}, f"entry hub {port}", "protect auth.* hub audit")
     relay = room.start("hub")
     relay.process.stdin.close()
     relay.rests()
@@ -255,7 +256,7 @@ def archive_is_a_pipe_that_nobody_reads_before_a_stop(room):
 def archive_is_a_pipe_that_nobody_reads(room):
     os.mkfifo(room.path("audit.log"))
     port = room.port()
-    room.site({"hub": module() + imtcp(port) + omfile("audit", "audit.log")}, f"entry hub {port}", "protect auth.* hub audit")
+    room.site({"hub": module() + imtcp(port) + omfile("audit", "audit.log", more=ANY)}, f"entry hub {port}", "protect auth.* hub audit")
     relay = room.start("hub")
     relay.rests()
     same("listens before somebody reads the pipe", is_listening(port), False)
@@ -372,13 +373,59 @@ def archive_opened_anew_while_a_line_is_torn(room):
 
 
 @test
-def archive_has_the_mode_of_the_umask(room):
+def archive_has_the_mode_that_is_given(room):
     port = room.port()
-    room.site({"hub": module() + imtcp(port) + omfile("audit", "audit.log")}, f"entry hub {port}", "protect auth.* hub audit")
-    for mask, mode in (0o027, 0o640), (0o022, 0o644):
+    for more, mask, mode in (("", 0o022, 0o640), ("", 0o077, 0o600), (' fileCreateMode="0644"', 0o022, 0o644), (' FILECREATEMODE="0600"', 0o000, 0o600)):
+        room.site({"hub": module() + imtcp(port) + omfile("audit", "audit.log", more=more)}, f"entry hub {port}", "protect auth.* hub audit")
         room.start("hub", port, words=["site", "hub"], limits=lambda: os.umask(mask)).stops_with(totals(0, 0, 0, ("audit", 0, 0, 0, 0)))
-        same(f"mode by the umask {mask:o}", os.stat(room.path("audit.log")).st_mode & 0o777, mode)
+        same(f"mode by{more} and the umask {mask:o}", os.stat(room.path("audit.log")).st_mode & 0o777, mode)
         os.unlink(room.path("audit.log"))
+
+
+@test
+def archive_in_folders_that_are_made(room):
+    port = room.port()
+    file = "deep/deeper/audit.log"
+    room.site({"hub": module() + imtcp(port) + omfile("audit", file, more=' createDirs="on" sync="on"')}, f"entry hub {port}", "protect auth.* hub audit")
+    relay = room.start("hub", port)
+    send_all(port, messages(2))
+    room.holds(file, messages(2))
+    relay.stops_with(totals(2, 0, 0, ("audit", 2, 2, 0, 0)))
+    same("mode of a folder", os.stat(room.path("deep")).st_mode & 0o777, 0o700)
+
+
+@test
+def archive_that_becomes_a_pipe_isnt_followed(room):
+    relay, port = room.hub()
+    send_all(port, messages(1))
+    room.holds("audit.log", messages(1))
+    os.rename(room.path("audit.log"), room.path("audit.old"))
+    os.mkfifo(room.path("audit.log"))
+    relay.is_told(b"reopen\n", port)
+    relay.says("syc: action audit can't reopen audit.log: it is no regular file; lines go on to the file that was renamed")
+    send_all(port, messages(2, 1))
+    room.holds("audit.old", messages(3))
+    relay.stops_with(totals(3, 0, 0, ("audit", 3, 3, 0, 0)))
+
+
+@test
+def archive_whose_sync_fails_once(room):
+    """What was written counts once the disk has it: the file is opened anew, and it is written again in a line of its own."""
+    strace = which("strace")
+    if strace is None:
+        raise LeftOut("no strace")
+    port = room.port()
+    room.site({"hub": module() + imtcp(port) + omfile("audit", "audit.log", -1, 0, ' sync="on"')}, f"entry hub {port}", "protect auth.* hub audit")
+    under = [strace, "-f", "-qq", "-o", room.path("calls"), "-e", "trace=fdatasync", "-e", "inject=fdatasync:error=EIO:when=2"]
+    relay = room.start("hub", port, under=under)
+    send_all(port, messages(1))
+    room.holds("audit.log", messages(1))
+    send_all(port, messages(1, 1))
+    relay.says("syc: action audit fails: error 5")
+    room.holds("audit.log", [*messages(2), *messages(1, 1)])
+    relay.stops_with(totals(2, 0, 0, ("audit", 2, 2, 0, 0)))
+    with open(room.path("calls"), encoding="ascii") as calls:
+        same("syncs", len(re.findall(r"fdatasync\(", calls.read())), 3)
 
 
 @test

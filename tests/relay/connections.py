@@ -155,3 +155,48 @@ def senders_that_come_and_go(room):
     for connection, numbers in places(room.lines("audit.log")).items():
         if numbers != list(range(len(numbers))):
             raise Failure(f"connection {connection}: the archive has other messages than its first {len(numbers)}")
+
+
+def timer_of(port):
+    """The timers of the host's connections that are established at a port (proc(5)): 2 is that of keep-alive."""
+    with open("/proc/net/tcp", encoding="ascii") as it:
+        rows = [line.split() for line in it][1:]
+    return [row[5].split(":")[0] for row in rows if int(row[1].split(":")[1], 16) == port and row[3] == "01"]
+
+
+@test
+def keep_alive_that_is_given(room):
+    ports = room.port(), room.port()
+    more = ' keepAlive="off"'
+    room.site({"hub": module() + imtcp(ports[0]) + imtcp(ports[1]).replace(")", more + ")") + omfile("audit", "audit.log")},
+              f"entry hub {ports[0]}", f"entry hub {ports[1]}", "protect auth.* hub audit")
+    relay = room.start("hub", *ports)
+    senders = [Sender(port).send(*messages(1, at)) for at, port in enumerate(ports)]
+    room.has("audit.log", 2)
+    until("a timer asks one peer whether it is there, and the other not", lambda: (timer_of(ports[0]), timer_of(ports[1])) == (["02"], ["00"]))
+    for sender in senders:
+        sender.end()
+    relay.stops_with(totals(2, 0, 0, ("audit", 2, 2, 0, 0)))
+
+
+@test
+def most_connections_by_the_module_and_by_an_input(room):
+    ports = room.port(), room.port()
+    loaded = module().replace(")", ' maxSessions="3")')
+    room.site({"hub": loaded + imtcp(ports[0]).replace(")", ' MaxSessions="1")') + imtcp(ports[1]) + omfile("audit", "audit.log")},
+              f"entry hub {ports[0]}", f"entry hub {ports[1]}", "protect auth.* hub audit")
+    relay = room.start("hub", *ports)
+    first = [Sender(ports[0]).send(*messages(1, at)) for at in range(2)]
+    second = [Sender(ports[1]).send(*messages(1, 10 + at)) for at in range(4)]
+    # (the second and the fifth wait with their host)
+    room.has("audit.log", 4)
+    relay.says(f"syc: as many connections are open as may be at {ports[0]}")
+    relay.says(f"syc: as many connections are open as may be at {ports[1]}")
+    same("lines", len(room.lines("audit.log")), 4)
+    for sender in (first[0], second[0]):
+        sender.end()
+    room.has("audit.log", 6)
+    relay.says(f"syc: connections are accepted again at {ports[0]}")
+    for sender in (first[1], *second[1:]):
+        sender.end()
+    relay.stops_with(totals(6, 0, 0, ("audit", 6, 6, 0, 0)))

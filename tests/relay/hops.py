@@ -6,7 +6,7 @@ import subprocess
 from archives import Pipe
 from control import DRAIN, asked
 from peers import Pump, Sender, frame, message, messages, send_all, send_side_by_side, split
-from room import WAIT, Failure, LeftOut, imtcp, main_queue, module, omfile, omfwd, same, test, totals, until
+from room import ANY, WAIT, Failure, LeftOut, imtcp, main_queue, module, omfile, omfwd, same, test, totals, until
 
 COUNT = 100_000
 # The queue of an entry that waits before it is full, and discards nothing.
@@ -207,7 +207,7 @@ BUFFERS = 12_000_000  # bytes that the buffers of a link may hold, whatever the 
 def hub_restarted_in_order_while_it_is_held(room):
     entry, inner = room.port(), room.port()
     edge = module() + imtcp(entry, ruleset="out") + QUEUE.format(1000, 900, omfwd("up", "hub", inner, -1, 0))
-    hub_text = module() + main_queue(size=100, fullDelayMark=90) + imtcp(inner) + omfile("audit", "audit.log", -1, 0)
+    hub_text = module() + main_queue(size=100, fullDelayMark=90) + imtcp(inner) + omfile("audit", "audit.log", -1, 0, ANY)
     room.site({"edge": edge, "hub": hub_text}, f"entry edge {entry}", "protect auth.* hub audit")
     pipe = Pipe(room, reads=False)
     hub = room.start("hub", inner, words=["site", "hub", "--left", "left"])

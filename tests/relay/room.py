@@ -153,7 +153,13 @@ def imtcp(port, flow="full", ruleset=""):
     return f'input(type="imtcp" port="{port}" flowControl="{flow}"{bound})\n'
 
 
+# what isn't a regular file is written to where that is said
+ANY = ' fileType="any"'
+
+
 def omfile(name, file, retries=-1, interval=30, more=""):
+    if file.startswith("/dev/"):
+        more += ANY
     return (f'action(name="{name}" type="omfile" file="{file}" action.resumeRetryCount="{retries}" '
             f'action.resumeInterval="{interval}"{more})\n')
 
@@ -362,9 +368,9 @@ class Room:
     def start_unchecked(self, name, *ports):
         return self.start(name, *ports, words=["--unchecked", "site", name])
 
-    def hub(self, more="", flow="full"):
+    def hub(self, more="", flow="full", kind=""):
         """Starts a hub with one archive, audit.log, that is accepted; answers it and its port."""
         port = self.port()
-        self.site({"hub": module() + more + imtcp(port, flow) + omfile("audit", "audit.log")},
+        self.site({"hub": module() + more + imtcp(port, flow) + omfile("audit", "audit.log", more=kind)},
                   f"entry hub {port}", "protect auth.* hub audit")
         return self.start("hub", port), port

@@ -6,7 +6,7 @@ import time
 
 from archives import Pipe
 from peers import Pump, Sender, message, messages, send_all
-from room import imtcp, main_queue, module, omfile, omfwd, same, test, totals, until
+from room import ANY, imtcp, main_queue, module, omfile, omfwd, same, test, totals, until
 
 LIBC = ctypes.CDLL(None, use_errno=True)
 DROP_OF_BOUNDS, OVERRIDE, READ_SEARCH = 24, 1, 2  # of prctl; and the capabilities by which root reads and writes any file
@@ -137,7 +137,7 @@ def reopen_while_a_pipe_is_full(room):
     pipe = Pipe(room, reads=False)
     port = room.port()
     room.site({"hub": module() + main_queue(size=1000, fullDelayMark=900) + imtcp(port) + omfile("other", "other.log")
-               + omfile("audit", "audit.log")}, f"entry hub {port}", "protect auth.* hub audit")
+               + omfile("audit", "audit.log", more=ANY)}, f"entry hub {port}", "protect auth.* hub audit")
     relay = room.start("hub", port)
     texts = messages(500, text="a" * 500)
     sender = Sender(port).send(*texts)
@@ -311,7 +311,7 @@ def archive_without_a_name_that_cannot_be_opened_anew(room):
 @test
 def files_that_are_none_keep_their_names(room):
     port = room.port()
-    room.site({"hub": module() + imtcp(port) + omfile("null", "/dev/null") + omfile("audit", "audit.log")},
+    room.site({"hub": module() + imtcp(port) + omfile("null", "/dev/null") + omfile("audit", "audit.log", more=ANY)},
               f"entry hub {port}", "protect auth.* hub audit")
     pipe = Pipe(room)
     relay = room.start("hub", port)

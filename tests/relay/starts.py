@@ -196,6 +196,34 @@ def archives_that_can_not_be_opened(room):
 
 
 @test
+def archives_that_are_no_regular_files(room):
+    port = room.port()
+    os.mkfifo(room.path("pipe"))
+    for file, more in (("pipe", ""), ("pipe", ' fileType="regular"'), ("//dev/null", "")):
+        hub_files(room, port, "first.log", more=omfile("second", file, more=more))
+        explains(room, ["site", "hub"], 4, "syc: an archive is no regular file\n", f"where: hub.conf:{place(room, 'second')}: action second",
+                 f"why: {file} is there, and is no regular file",
+                 'change: the name of a file, or fileType="any" where a FIFO or a device is meant')
+        room.ports_are_free(port)
+
+
+@test
+def archives_without_files_of_their_own(room):
+    port = room.port()
+    os.symlink("site", room.path("link"))
+    for file, own, who, why in (("first.log", "first.log", "audit", "first.log is the file of action second too"),
+                                ("./first.log", "first.log", "audit", "first.log is the file of action second too"),
+                                ("hub.conf", "first.log", "second", "hub.conf is one of the site's own files"),
+                                ("link", "first.log", "second", "link is one of the site's own files")):
+        hub_files(room, port, own, more=omfile("second", file))
+        before = room.read("hub.conf"), room.read("site")
+        explains(room, ["site", "hub"], 4, "syc: an archive has no file of its own\n", f"where: hub.conf:{place(room, who)}: action {who}",
+                 f"why: {why}", "change: the name of another file")
+        same("the site's files", (room.read("hub.conf"), room.read("site")), before)
+        room.ports_are_free(port)
+
+
+@test
 def archive_of_another_user(room):
     hub_files(room, room.port())
     with ordinary_user(room) as (folder, ends):

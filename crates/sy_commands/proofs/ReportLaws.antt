@@ -11,7 +11,8 @@ use Rattle.sy_report.specs.Outcomes.{Prints}
 use Rattle.sy_report.specs.Reports.{Streams}
 use Rattle.sy_commands.specs.SiteFiles.{HaveBytes}
 use Rattle.sy_tunnels.specs.Tunnels.{machine_text}
-use Rattle.sy_places.specs.SiteFiles.{AreGiven, IsSiteOf}
+use Rattle.sy_host_parameters.proofs.Machines.{one_machine}
+use Rattle.sy_places.specs.SiteFiles.{AreGiven, AreMachineFiles, IsSiteOf}
 use Rattle.sy_commands.specs.Verdicts.{DescribesKept}
 use Rattle.sy_findings.specs.Verdicts.{SaysOf}
 use Rattle.sy_report.specs.declared.outcome.answer.Answer.{Answer}
@@ -55,13 +56,25 @@ module _ (bytes_of : List ℕ → Option (List ℕ)) where
       let second = known_bytes (bytes_of y.name) y.bytes reported.0.0 reported.0.1 gy.0 in
       ap (λ f. f ∷ xs) (same_file x y name (first ∙ sym second)) ∙ ap (λ fs. y ∷ fs) (same_files xs ys (later_names names) gx.1 gy.1 reported.1)
 
+  one_machines : (files a b : List File) → AreMachineFiles files a → AreMachineFiles files b → a ≡ b
+  one_machines [] [] [] are others = refl
+  one_machines [] [] (y ∷ ys) are others = absurd others
+  one_machines [] (x ∷ xs) b are others = absurd are
+  one_machines (f ∷ files) [] b are others = absurd are
+  one_machines (f ∷ files) (x ∷ xs) [] are others = absurd others
+  one_machines (f ∷ files) (x ∷ xs) (y ∷ ys) (name, text, are) (named, read, others) =
+      ap (λ m. m ∷ xs) (same_file x y (name ∙ sym named) (one_machine f.bytes x.bytes y.bytes text read))
+      ∙ ap (λ ms. y ∷ ms) (one_machines files xs ys are others)
+
   pub one_of_files : ((text : List ℕ) (files : List File) (a b : Site) → Describes text files a → Describes text files b → a ≡ b)
       → (text : List ℕ) (site : Site) → IsSiteOf bytes_of text site → HaveBytes bytes_of (file_names text)
       → (other : Site) → IsSiteOf bytes_of text other → other ≡ site
   one_of_files one text site is reported other is_other =
       let same = same_files is_other.given is.given (is_other.are_given.names ∙ sym is.are_given.names) is_other.are_given.bytes is.are_given.bytes
       (subst (HaveBytes bytes_of) (sym is.are_given.names) reported) in
-      one (machine_text text) is.given other site (subst (λ files. Describes (machine_text text) files other) same is_other.describes) is.describes
+      let machines = one_machines is.given is_other.machines is.machines
+      (subst (λ files. AreMachineFiles files is_other.machines) same is_other.are_machines) is.are_machines in
+      one (machine_text text) is.machines other site (subst (λ files. Describes (machine_text text) files other) machines is_other.describes) is.describes
 
 -- ---- what an accepted certificate shows
 

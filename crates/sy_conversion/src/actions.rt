@@ -86,6 +86,9 @@ fn action_text(
         Destination::File(path) => {
             append_param(&mut text, b"type", b"omfile")?;
             append_param(&mut text, b"file", path)?;
+            if path.starts_with(b"/dev/") {
+                append_param(&mut text, b"fileType", b"any")?;
+            }
         }
         Destination::Forward { target, port } => {
             append_param(&mut text, b"type", b"omfwd")?;
@@ -197,6 +200,48 @@ const CARRIED: [&[u8]; 9] = [
     b"type",
 ];
 
+/// The parameters of an omfile for its host, which are carried over where a relay takes their value.
+const OF_HOST: [&[u8]; 3] = [b"createDirs", b"fileCreateMode", b"sync"];
+
+// Whether a value is a mode as a relay takes it: four octal digits, of which the first is 0.
+fn is_mode(value: &[u8]) -> bool {
+    value.len() == 4
+        && byte_at(value, 0) == b'0'
+        && value.iter().all(|byte| b'0' <= *byte && *byte <= b'7')
+}
+
+// The value of a parameter for the host as a relay takes it.
+fn host_value<'a>(name: &[u8], value: &'a [u8]) -> Option<&'a [u8]> {
+    if same_word(b"fileCreateMode", name) {
+        return if is_mode(value) { Some(value) } else { None };
+    }
+    if same_word(b"on", value) {
+        return Some(b"on");
+    }
+    if same_word(b"off", value) {
+        return Some(b"off");
+    }
+    None
+}
+
+// Puts the parameters for the host behind the text of an action that writes a file, and their names behind those that are carried
+// over.
+fn append_host(
+    whole: &mut Vec<u8>,
+    text: &[u8],
+    params: &[Param],
+    carried: &mut Vec<&'static [u8]>,
+) -> Result<(), AllocError> {
+    for name in OF_HOST.as_slice() {
+        let given = value_of(text, params, name);
+        if let Some(value) = given.and_then(|value| host_value(name, value)) {
+            append_param(whole, name, value)?;
+            carried.push(name)?;
+        }
+    }
+    Ok(())
+}
+
 /// Carries over an action of these parameters, a statement by its number.
 pub(crate) fn action(
     draft: &mut Draft,
@@ -222,7 +267,11 @@ pub(crate) fn action(
     if let Some(interval) = value_of(text, params, b"action.resumeInterval") {
         append_param(&mut whole, b"action.resumeInterval", interval)?;
     }
-    let without = append_queue(draft.alloc, &mut whole, text, params, CARRIED.as_slice())?;
+    let mut carried = Vec::from_slice(draft.alloc, CARRIED.as_slice())?;
+    if let Destination::File(_) = destination {
+        append_host(&mut whole, text, params, &mut carried)?;
+    }
+    let without = append_queue(draft.alloc, &mut whole, text, params, carried.as_slice())?;
     whole.push(b')')?;
     draft.without(b"the next statement", without.names.as_slice())?;
     draft.push(whole.as_slice())?;

@@ -8,6 +8,7 @@ use std::alloc::{AllocError, Global};
 use sy_fault_notes::plan::notes::{example, object_at, push_plan_fault};
 use sy_fault_notes::plan::parameter_rows::row_of;
 use sy_fault_notes::script::notes::push_script_fault;
+use sy_host_parameters::machine_text;
 use sy_places::relay_file::outline::{Object, ObjectWord, outline_script};
 use sy_places::relay_file::places::Places;
 use sy_places::site_file::source::place_of_line;
@@ -179,9 +180,23 @@ fn if_missing(fault: PlanFault) -> Option<PlanFault> {
     }
 }
 
+// The script that a plan is read from: that of a text without its parameters for the host.
+fn plan_script(alloc: Global, text: &[u8]) -> Result<Script, ScriptFault> {
+    match machine_text(alloc, text) {
+        Ok(Some(machine)) => read_script(alloc, machine.as_slice()),
+        Ok(None) => read_script(alloc, text),
+        Err(_) => Err(ScriptFault {
+            code: ScriptCode::NoMemory,
+            line: 1,
+            column: 1,
+            word: Items::new(alloc),
+        }),
+    }
+}
+
 // What is missing in a text with one object.
 fn missing_in(alloc: Global, text: &[u8]) -> Option<PlanFault> {
-    match read_script(alloc, text) {
+    match plan_script(alloc, text) {
         Ok(script) => match Plan::load(alloc, &script) {
             Ok(_plan) => None,
             Err(fault) => if_missing(fault),
@@ -276,7 +291,7 @@ fn step_plan(
 // ---- all of them
 
 fn judge_once(alloc: Global, hunt: &mut Hunt<'_>) -> Result<Step, AllocError> {
-    match read_script(alloc, hunt.mended.draft.text()) {
+    match plan_script(alloc, hunt.mended.draft.text()) {
         Ok(script) => match Plan::load(alloc, &script) {
             Ok(_) => Ok(Step::Clean),
             Err(fault) => match fault.code {
@@ -322,7 +337,7 @@ fn go(alloc: Global, hunt: &mut Hunt<'_>, bounds: &mut Bounds) -> Result<bool, A
     Ok(false)
 }
 
-/// The faults of a relay's file in the order in which they are met; and the text without them, where all of that is known that
+/// The faults of a relay's file in the order in which they are met; and the text that its plan is read from, without them, where all of that is known that
 /// another file may speak of. What is read again is taken off the bytes that are left for that.
 pub fn all_of_file(
     alloc: Global,
@@ -347,6 +362,9 @@ pub fn all_of_file(
     if !is_plan || !mended.is_firm {
         return Ok((found, None));
     }
-    let text = Vec::from_slice(alloc, mended.draft.text())?;
+    let text = match machine_text(alloc, mended.draft.text())? {
+        Some(machine) => machine,
+        None => Vec::from_slice(alloc, mended.draft.text())?,
+    };
     Ok((found, Some(text)))
 }

@@ -23,6 +23,7 @@ use std::sync::{Arc, Wait};
 use std::thread::Threads;
 use std::time::Clock;
 use sy_board::Guard;
+use sy_host_parameters::RelayHost;
 use sy_inputs::accepting::start_accepting;
 use sy_inputs::connector::Connector;
 use sy_inputs::listening::{ListenFault, Listening, listen_all};
@@ -53,6 +54,8 @@ pub struct Served<'a> {
     pub reopens: Arc<Reopens>,
     /// For how many seconds it may empty before it stops.
     pub drain: Option<u32>,
+    /// What its host is to do.
+    pub does: &'a RelayHost,
 }
 
 // Tells why a relay doesn't listen, and answers the exit status.
@@ -330,7 +333,7 @@ pub fn serve<
         end_printing(&rt, serving);
         return status;
     }
-    let status = match listen_all(&rt, alloc, address, plan.inputs()) {
+    let status = match listen_all(&rt, alloc, address, plan.inputs(), served.does) {
         Ok(all) => serve_at(rt, alloc, served, all, store, reader, writer, serving),
         Err(fault) => listen_failed(&rt, serving, fault),
     };

@@ -7,7 +7,7 @@ use crate::listening::Listening;
 use crate::pool::Pool;
 use crate::reading::{Shared, start_readers};
 use crate::serving::Serving;
-use crate::sessions::{MAX_SESSIONS, Sessions};
+use crate::sessions::Sessions;
 use std::alloc::{AllocError, Global};
 use std::net::{Net, TcpListener, TcpStream};
 use std::os::fd::AsRawFd;
@@ -15,6 +15,7 @@ use std::sync::{Arc, Wait};
 use std::thread;
 use std::thread::Threads;
 use std::time::{Clock, Duration, Instant};
+use sy_host_parameters::ReceiverHost;
 use sy_outlets::port::Port;
 use sy_wire::Sink;
 
@@ -35,6 +36,7 @@ struct Acceptor<E: Drop> {
     sessions: Arc<Sessions>,
     at: Port,
     listener: TcpListener,
+    does: ReceiverHost,
 }
 
 // Accepts the next connection; none where the relay stops. Whatever memory it takes it has before.
@@ -50,7 +52,7 @@ fn accept<R: Wait, E: Sink + Drop>(
     if of.serving.is_stopping() {
         return Ok(None);
     }
-    keep_alive(&stream);
+    keep_alive(&stream, of.does);
     let Ok(()) = stream.set_nonblocking(true) else {
         return Err(AllocError);
     };
@@ -190,15 +192,17 @@ pub fn start_accepting<
     serving: &Arc<Serving<E>>,
     listening: Listening,
 ) -> Result<(), AllocError> {
-    let Listening { at, listener } = listening;
+    let Listening { at, listener, does } = listening;
     let pool = Arc::new(alloc, Pool::new(&rt, alloc, wanted_readers(&rt))?)?;
-    let sessions = Arc::new(alloc, Sessions::new(MAX_SESSIONS))?;
+    let most = usize::try_from(does.max_sessions).unwrap_or(usize::MAX);
+    let sessions = Arc::new(alloc, Sessions::new(most))?;
     let acceptor = Acceptor {
         serving: Arc::try_clone(serving)?,
         pool: Arc::try_clone(&pool)?,
         sessions: Arc::try_clone(&sessions)?,
         at,
         listener,
+        does,
     };
     let shared = Shared {
         relay: Arc::try_clone(relay)?,

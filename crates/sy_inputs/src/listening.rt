@@ -8,6 +8,7 @@ use std::alloc::Global;
 use std::io;
 use std::net::{IpAddr, Ipv4Addr, Ipv6Addr, Net, SocketAddr, TcpListener, TcpStream};
 use std::os::fd::AsRawFd;
+use sy_host_parameters::{ReceiverHost, RelayHost};
 use sy_outlets::port::Port;
 use sy_report::texts::reason::Reason;
 use sy_rules::Input;
@@ -18,11 +19,12 @@ const NO_FAMILY: i32 = 97;
 // How many connections may wait to be accepted; the host cuts it to its own limit.
 const BACKLOG: i32 = 4096;
 
-/// An input and what listens at its port.
+/// An input, what listens at its port, and what the host is to do for its connections.
 #[derive(Drop)]
 pub struct Listening {
     pub at: Port,
     pub listener: TcpListener,
+    pub does: ReceiverHost,
 }
 
 /// Why a relay doesn't listen.
@@ -65,6 +67,7 @@ fn listen<R: Net<Listener = TcpListener, Stream = TcpStream>>(
     rt: &R,
     address: Option<IpAddr>,
     at: Port,
+    does: ReceiverHost,
 ) -> Result<Listening, ListenFault>
     ensures { IfOk result (λ listening. listening.at ≡ at) }
 {
@@ -72,7 +75,7 @@ fn listen<R: Net<Listener = TcpListener, Stream = TcpStream>>(
         Ok(listener) => {
             // (a host that can't have so many wait has fewer)
             let _ = c::listen(listener.as_raw_fd(), BACKLOG);
-            Ok(Listening { at, listener })
+            Ok(Listening { at, listener, does })
         }
         Err(error) => Err(ListenFault::Bind(at.port, Reason::of(&error))),
     }
@@ -84,6 +87,7 @@ pub fn listen_all<R: Net<Listener = TcpListener, Stream = TcpStream>>(
     alloc: Global,
     address: Option<IpAddr>,
     inputs: &[Input],
+    does: &RelayHost,
 ) -> Result<Vec<Listening>, ListenFault>
     requires { length inputs.now ≤ 64 }
     ensures { IfOk result (λ all. map at_of all.items ≡ ports_from 0 inputs.now) }
@@ -95,7 +99,7 @@ pub fn listen_all<R: Net<Listener = TcpListener, Stream = TcpStream>>(
             input: number,
             port: input.port,
         };
-        let listening = listen(rt, address, at)?;
+        let listening = listen(rt, address, at, does.receiver(number as usize))?;
         let Ok(()) = found.push(listening) else {
             return Err(ListenFault::NoMemory);
         };

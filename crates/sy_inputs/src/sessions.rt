@@ -5,9 +5,6 @@ use std::sync::atomic::{AtomicUsize, Ordering};
 use std::thread::Parker;
 use std::time::{Clock, Duration};
 
-/// How many connections an input serves at a time.
-pub const MAX_SESSIONS: usize = 10_000;
-
 /// How many connections of an input are open, and how many may be. One thread, which accepts them, waits for one that ends.
 #[derive(Drop)]
 pub struct Sessions {

@@ -1,5 +1,5 @@
 -- What connections leave, and the files that a relay writes to, may cross threads.
-use denote.Param.Send.{IsSend, IsSync, recorded_send, recorded_sync, sendable, struct_send}
+use denote.Param.Send.{IsSend, IsSync, recorded_send, recorded_sync, sendable, struct_send, struct_sync}
 use denote.Struct.Declared.{shape}
 use Rattle.std.proofs.Crossing.{crosses}
 use Rattle.sy_chain.specs.contracts.node.Node as Node
@@ -10,6 +10,7 @@ use Rattle.sy_outlets.specs.contracts.leaving.remaining.Unkept as Unkept
 use Rattle.sy_outlets.specs.contracts.devices.file_writer.FileWriter as FileWriter
 use Rattle.sy_outlets.specs.contracts.devices.frame_file.FrameFile as FrameFile
 use Rattle.sy_outlets.specs.contracts.rotation.reopens.Reopens as Reopens
+use Rattle.sy_outlets.specs.contracts.rotation.rotated.Form as Form
 use Rattle.sy_outlets.specs.contracts.rotation.rotated.Open as Open
 use Rattle.sy_outlets.specs.contracts.rotation.rotated.Rotated as Rotated
 use Rattle.sy_outlets.specs.contracts.rotation.rotated.Writer as FileForm
@@ -49,14 +50,22 @@ file_form_send : IsSend FileForm.the_row
 file_form_send = search (file_writer_send, frame_file_send, sendable, crosses) depth 80 fits 20000
 
 open_file_send : IsSend Open.the_row
-open_file_send = recorded_send Open.the_field.row _ _ Open.the_type.to_one (search (file_form_send, sendable, crosses) depth 80 fits 20000)
+open_file_send =
+    recorded_send Open.the_field.row _ _ Open.the_type.to_one (struct_send (shape Open.the_type) (search (file_form_send, sendable, crosses) depth 80 fits 20000, (search (file_form_send, sendable, crosses) depth 80 fits 20000, (search (file_form_send, sendable, crosses) depth 80 fits 20000, tt))))
+
+form_send : IsSend Form.the_row
+form_send = search (sendable, crosses) depth 40 fits 8000
+
+form_sync : IsSync Form.the_row
+form_sync = search (sendable, crosses) depth 40 fits 8000
 
 pub rotated_send : IsSend Rotated.the_row
 rotated_send =
-    recorded_send Rotated.the_field.row _ _ Rotated.the_type.to_one (struct_send (shape Rotated.the_type) (search (open_file_send, noted_send, noted_sync, sendable, crosses) depth 80 fits 20000, (search (open_file_send, noted_send, noted_sync, sendable, crosses) depth 80 fits 20000, (search (open_file_send, noted_send, noted_sync, sendable, crosses) depth 80 fits 20000, (search (open_file_send, noted_send, noted_sync, sendable, crosses) depth 80 fits 20000, (search (open_file_send, noted_send, noted_sync, sendable, crosses) depth 80 fits 20000, (search (open_file_send, noted_send, noted_sync, sendable, crosses) depth 80 fits 20000, (search (open_file_send, noted_send, noted_sync, sendable, crosses) depth 80 fits 20000, (search (open_file_send, noted_send, noted_sync, sendable, crosses) depth 80 fits 20000, tt)))))))))
+    recorded_send Rotated.the_field.row _ _ Rotated.the_type.to_one (struct_send (shape Rotated.the_type) (search (open_file_send, form_send, noted_send, noted_sync, sendable, crosses) depth 80 fits 20000, (search (open_file_send, form_send, noted_send, noted_sync, sendable, crosses) depth 80 fits 20000, (search (open_file_send, form_send, noted_send, noted_sync, sendable, crosses) depth 80 fits 20000, (search (open_file_send, form_send, noted_send, noted_sync, sendable, crosses) depth 80 fits 20000, (search (open_file_send, form_send, noted_send, noted_sync, sendable, crosses) depth 80 fits 20000, (search (open_file_send, form_send, noted_send, noted_sync, sendable, crosses) depth 80 fits 20000, (search (open_file_send, form_send, noted_send, noted_sync, sendable, crosses) depth 80 fits 20000, (search (open_file_send, form_send, noted_send, noted_sync, sendable, crosses) depth 80 fits 20000, tt)))))))))
 
 pub rotated_sync : IsSync Rotated.the_row
-rotated_sync = recorded_sync Rotated.the_field.row _ _ Rotated.the_type.to_one (search (open_file_send, noted_send, noted_sync, sendable, crosses) depth 80 fits 20000)
+rotated_sync =
+    recorded_sync Rotated.the_field.row _ _ Rotated.the_type.to_one (struct_sync (shape Rotated.the_type) (search (open_file_send, form_send, form_sync, noted_send, noted_sync, sendable, crosses) depth 80 fits 20000, (search (open_file_send, form_send, form_sync, noted_send, noted_sync, sendable, crosses) depth 80 fits 20000, (search (open_file_send, form_send, form_sync, noted_send, noted_sync, sendable, crosses) depth 80 fits 20000, (search (open_file_send, form_send, form_sync, noted_send, noted_sync, sendable, crosses) depth 80 fits 20000, (search (open_file_send, form_send, form_sync, noted_send, noted_sync, sendable, crosses) depth 80 fits 20000, (search (open_file_send, form_send, form_sync, noted_send, noted_sync, sendable, crosses) depth 80 fits 20000, (search (open_file_send, form_send, form_sync, noted_send, noted_sync, sendable, crosses) depth 80 fits 20000, (search (open_file_send, form_send, form_sync, noted_send, noted_sync, sendable, crosses) depth 80 fits 20000, tt)))))))))
 
 pub reopens_send : IsSend Reopens.the_row
 reopens_send = search (rotated_send, rotated_sync, sendable, crosses) depth 80 fits 20000

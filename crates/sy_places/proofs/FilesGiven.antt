@@ -4,8 +4,9 @@ use Rattle.std.specs.Prelude.{IfSome, Option, string_bytes}
 use Rattle.sy_site.specs.texts.Describes.{File}
 use Rattle.sy_places.specs.declared.site_file.texts.RelayText.{RelayText}
 use Rattle.std.proofs.lemmas.List.{append_assoc, append-nil, map_push}
-use Rattle.sy_places.specs.SiteFiles.{AreGiven}
-use Rattle.sy_places.specs.internal.Halts.{file_of}
+use Rattle.sy_places.specs.SiteFiles.{AreGiven, AreMachineFiles}
+use Rattle.sy_places.specs.internal.Halts.{file_of, machine_file_of}
+use Rattle.sy_host_parameters.specs.HostParameters.{IsMachineText, machine_or}
 
 pub names_given : (files : List RelayText) → map (λ (file : File). file.name) (map file_of files) ≡ map (λ (f : RelayText). string_bytes f.name) files
 names_given [] = refl
@@ -36,3 +37,20 @@ pub given_more : (bytes_of : List ℕ → Option (List ℕ)) (files : List Relay
     → IfSome (bytes_of (string_bytes file.name)) (λ bytes. file.text.items ≡ bytes) → AreGiven bytes_of (map file_of (files ++ file ∷ []))
 given_more bytes_of files file given is =
     subst (AreGiven bytes_of) (sym (map_push file_of files file)) (given_behind bytes_of (map file_of files) (file_of file) given is)
+
+machine_behind : (files machines : List File) (file machine : File) → AreMachineFiles files machines → machine.name ≡ file.name
+    → IsMachineText file.bytes machine.bytes → AreMachineFiles (files ++ file ∷ []) (machines ++ machine ∷ [])
+machine_behind [] [] file machine are same is = (same, is, tt)
+machine_behind [] (m ∷ machines) file machine are same is = absurd are
+machine_behind (f ∷ files) [] file machine are same is = absurd are
+machine_behind (f ∷ files) (m ∷ machines) file machine (name, text, are) same is =
+    (name, text, machine_behind files machines file machine are same is)
+
+-- a file more, with the text that its plan is read from
+pub machines_more : (files : List RelayText) (file : RelayText) → AreMachineFiles (map file_of files) (map machine_file_of files)
+    → IsMachineText file.text.items (machine_or file.text.items file.machine)
+    → AreMachineFiles (map file_of (files ++ file ∷ [])) (map machine_file_of (files ++ file ∷ []))
+machines_more files file are is =
+    subst (λ fs. AreMachineFiles fs (map machine_file_of (files ++ file ∷ []))) (sym (map_push file_of files file))
+    (subst (AreMachineFiles (map file_of files ++ file_of file ∷ [])) (sym (map_push machine_file_of files file))
+    (machine_behind (map file_of files) (map machine_file_of files) (file_of file) (machine_file_of file) are refl is))

@@ -1,5 +1,6 @@
 //! The note of an archive that can't be opened.
 
+use crate::own_files::Owner;
 use crate::start_notes::{kind_of, lines_of, note_at, push_folder, push_reason};
 use std::alloc::{AllocError, Global};
 use std::io::ErrorKind;
@@ -11,11 +12,15 @@ use sy_report::texts::reason::Reason;
 use sy_rules::Destination;
 use sy_site::Site;
 
-/// An archive that can't be opened: the number of its action, the reason where the host gave one, and the folder in which
+/// An archive that can't be opened: the number of its action, whether it is no regular file, the reason where the host gave one, and the folder in which
 /// names that aren't absolute are looked for, where that is known.
 #[derive(Clone, Copy)]
 pub struct Unopened<'a> {
     pub action: usize,
+    /// Whether what has its name is no regular file, and is to be one.
+    pub is_other: bool,
+    /// Whose its file is already.
+    pub owner: Option<Owner>,
     pub reason: Option<Reason>,
     pub folder: Option<&'a str>,
 }
@@ -43,14 +48,39 @@ fn push_no_folder(note: &mut Note, name: &[u8], folder: Option<&str>) {
         .say("make that folder, or another name in that line");
 }
 
+// Says whose an archive's file is already.
+fn push_owner(note: &mut Note, site: &Site, relay: u32, owner: Owner) {
+    match owner {
+        Owner::Site => note.why.say(" is one of the site's own files"),
+        Owner::Action(action) => {
+            note.why.say(" is the file of action ");
+            let name = name_of(site, relay, action).unwrap_or(b"");
+            note.why.append(&[Part::Text(name), Part::Text(b" too")]);
+        }
+    }
+    note.change.say("the name of another file");
+}
+
 // Says why a file can't be opened for appending.
 fn push_unopened(
     alloc: Global,
     note: &mut Note,
+    (site, relay): (&Site, u32),
     name: &[u8],
     why: Unopened<'_>,
 ) -> Result<(), AllocError> {
     note.why.append(&[Part::Text(name)]);
+    if let Some(owner) = why.owner {
+        push_owner(note, site, relay, owner);
+        return Ok(());
+    }
+    if why.is_other {
+        note.why.say(" is there, and is no regular file");
+        note.change.say(
+            "the name of a file, or fileType=\"any\" where a FIFO or a device is meant",
+        );
+        return Ok(());
+    }
     match kind_of(why.reason) {
         ErrorKind::NotFound => push_no_folder(note, name, why.folder),
         ErrorKind::NotADirectory => {
@@ -94,6 +124,15 @@ fn file_of(site: &Site, relay: u32, action: usize) -> Option<&[u8]> {
     }
 }
 
+// The name of an action.
+fn name_of(site: &Site, relay: u32, action: usize) -> Option<&[u8]> {
+    if relay >= site.relays() {
+        return None;
+    }
+    let action = site.plan(relay).actions().get(action)?;
+    Some(action.name.as_slice())
+}
+
 /// What is said of an archive that can't be opened: its action and where that stands, its file's name, why, and what to
 /// change.
 pub fn archive_words(
@@ -110,7 +149,7 @@ pub fn archive_words(
             note.why.say("the name of its file is empty");
             note.change.say("the name of a file");
         }
-        Some(name) => push_unopened(alloc, &mut note, name, why)?,
+        Some(name) => push_unopened(alloc, &mut note, (site, relay), name, why)?,
         None => note.why.say("its file can't be opened"),
     }
     lines_of(alloc, &note)

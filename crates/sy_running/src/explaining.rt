@@ -4,6 +4,7 @@ ghost use Rattle.sy_report.specs.Halts.{status_at};
 ghost use Rattle.sy_site.specs.Finding.{IsTrueRefusal};
 
 use crate::archive_note::{Unopened, archive_words};
+use crate::own_files::Owner;
 use crate::port_note::port_words;
 use crate::start_notes::{Lack, lack_text};
 use crate::words::RunWords;
@@ -26,11 +27,12 @@ use sy_site::Site;
 use sy_site::finding::Refusal;
 use sy_wire::{FromWrite, Sink};
 
-/// Why an action has no device: its number, and what the host said, where it did.
+/// Why an action has no device: its number, whose its file is already, and what the host said, where it did.
 #[derive(Clone, Copy)]
 pub struct NoDevice {
     pub action: usize,
     pub fault: OpenFault,
+    pub owner: Option<Owner>,
     pub reason: Option<Reason>,
 }
 
@@ -40,6 +42,17 @@ impl NoDevice {
         NoDevice {
             action,
             fault: OpenFault::NoMemory,
+            owner: None,
+            reason: None,
+        }
+    }
+
+    /// The file of this action is somebody's already.
+    pub fn owned(action: usize, owner: Owner) -> NoDevice {
+        NoDevice {
+            action,
+            fault: OpenFault::Write,
+            owner: Some(owner),
             reason: None,
         }
     }
@@ -140,6 +153,8 @@ fn unopened(
     let folder = files.folder();
     let why = Unopened {
         action: why.action,
+        is_other: matches!(why.fault, OpenFault::NotRegular),
+        owner: why.owner,
         reason: why.reason,
         folder: match &folder {
             Some(folder) => Some(folder.as_str()),
@@ -158,7 +173,7 @@ pub fn explain_no_device<E: Sink>(
     why: NoDevice,
     errors: &mut E,
 ) {
-    if let OpenFault::Write = why.fault {
+    if !matches!(why.fault, OpenFault::NoMemory) {
         let files = HostFiles::new(rt, Kinds::Regular);
         print_words(errors, unopened(rt.alloc(), &files, name, site, relay, why));
     }

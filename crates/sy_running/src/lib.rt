@@ -4,8 +4,10 @@
 mod archive_note;
 pub mod endpoints;
 pub mod explaining;
+pub mod files_read;
 pub mod left_store;
 pub mod opening;
+mod own_files;
 mod port_note;
 pub mod prepare;
 pub mod runs_lines;

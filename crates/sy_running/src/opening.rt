@@ -2,16 +2,19 @@
 ghost use Rattle.std.specs.Prelude.{◌≡◌, ◌<◌, IfOk, length};
 
 use crate::explaining::{NoDevice, explain_no_device};
+use crate::own_files::OwnFiles;
 use crate::unread_file::{Noting, UnreadWanted, unread_files};
 use std::alloc::{AllocError, Global};
 use std::sync::Arc;
 use sy_endpoints::outlets::Outlet;
 use sy_host::watching::noted::watch_of;
+use sy_host_parameters::{ArchiveHost, RelayHost};
 use sy_log::log::{ActionLog, Log};
 use sy_log::unread_names::{UnreadNames, unread_names};
 use sy_outlets::devices::host_device::HostDevice;
 use sy_outlets::devices::opening::{OpenFault, Signals, taker};
 use sy_outlets::unread_file::UnreadFile;
+use sy_report::outcome::report::report_texts;
 use sy_report::outcome::stop;
 use sy_rules::Plan;
 use sy_site::Site;
@@ -27,6 +30,10 @@ pub struct Wanted<'a> {
     /// the name of the file of the metrics, and after how many seconds it is written again
     pub metrics: Option<&'a str>,
     pub metrics_every: u32,
+    /// what the host is to do for each action
+    pub does: &'a RelayHost,
+    /// the names of the site's files
+    pub names: &'a [String],
     /// the name of the site file, where a fault of the start is explained
     pub explained: Option<&'a str>,
 }
@@ -44,8 +51,18 @@ pub struct Opened {
 fn no_devices<E: Sink>(errors: &mut E, fault: OpenFault) -> u8 {
     match fault {
         OpenFault::Write => stop::write_failed(errors),
+        OpenFault::NotRegular => {
+            report_texts(errors, &[b"syc: an archive is no regular file\n"]);
+            4
+        }
         OpenFault::NoMemory => stop::out_of_memory(errors),
     }
+}
+
+// Tells that an archive's file is somebody's already, and answers the exit status.
+fn no_own_file<E: Sink>(errors: &mut E) -> u8 {
+    report_texts(errors, &[b"syc: an archive has no file of its own\n"]);
+    4
 }
 
 // The same for an action of a relay, with an explanation, where that is asked for.
@@ -57,7 +74,10 @@ fn no_device<E: Sink>(
     why: NoDevice,
     errors: &mut E,
 ) -> u8 {
-    let status = no_devices(errors, why.fault);
+    let status = match why.owner {
+        Some(_) => no_own_file(errors),
+        None => no_devices(errors, why.fault),
+    };
     if let Some(name) = wanted.explained {
         explain_no_device(&host, name, site, relay, why, errors);
     }
@@ -68,7 +88,7 @@ fn no_device<E: Sink>(
 fn device_of(
     host: HostRuntime,
     alloc: Global,
-    outlet: Outlet<'_>,
+    outlet: (Outlet<'_>, ArchiveHost),
     signals: &Signals,
     log: &Arc<Log>,
     action: usize,
@@ -84,8 +104,29 @@ fn device_of(
         Err(fault) => Err(NoDevice {
             action,
             fault,
+            owner: None,
             reason: noted.take_reason(),
         }),
+    }
+}
+
+// The same, whose file, where it has one, is nobody's else.
+fn own_device(
+    host: HostRuntime,
+    alloc: Global,
+    (outlet, does): (Outlet<'_>, ArchiveHost),
+    files: &mut OwnFiles,
+    signals: &Signals,
+    log: &Arc<Log>,
+    action: usize,
+) -> Result<HostDevice, NoDevice> {
+    if let Some(owner) = files.owner(&host, outlet, does) {
+        return Err(NoDevice::owned(action, owner));
+    }
+    let device = device_of(host, alloc, (outlet, does), signals, log, action)?;
+    match files.push(&host, outlet, does, action) {
+        Ok(()) => Ok(device),
+        Err(_) => Err(NoDevice::without_memory(action)),
     }
 }
 
@@ -112,15 +153,20 @@ fn devices_of(
     host: HostRuntime,
     alloc: Global,
     outlets: &[Outlet<'_>],
+    wanted: Wanted<'_>,
     signals: &Signals,
     log: &Arc<Log>,
 ) -> Result<Vec<HostDevice>, NoDevice>
     ensures { IfOk result (λ devices. length devices.items ≡ length outlets.now) }
 {
     let mut devices = Vec::new(alloc);
+    let Ok(mut files) = OwnFiles::of_site(&host, alloc, wanted.names) else {
+        return Err(NoDevice::without_memory(0));
+    };
     for outlet in outlets {
         let action = devices.len();
-        let device = device_of(host, alloc, *outlet, signals, log, action)?;
+        let outlet = (*outlet, wanted.does.archive(action));
+        let device = own_device(host, alloc, outlet, &mut files, signals, log, action)?;
         let Ok(()) = devices.push(device) else {
             return Err(NoDevice::without_memory(action));
         };
@@ -165,7 +211,7 @@ pub fn open_all<'a, E: Sink>(
     let Ok(watch) = watch_with(host, alloc, site, relay, &log, wanted) else {
         return Err(stop::out_of_memory(errors));
     };
-    let devices = match devices_of(host, alloc, outlets, signals, &log) {
+    let devices = match devices_of(host, alloc, outlets, wanted, signals, &log) {
         Ok(devices) => devices,
         Err(why) => return Err(no_device(host, site, relay, wanted, why, errors)),
     };

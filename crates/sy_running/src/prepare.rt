@@ -9,13 +9,13 @@ ghost use Rattle.sy_inputs.specs.WholeEntries.{KeepsWhole};
 
 use crate::endpoints::tell_apart;
 use crate::explaining::{options_for, print_found, print_halt, print_words};
+use crate::files_read::{FilesRead, files_read};
 use crate::start_notes::no_relay_words;
 use crate::whole_entries::keep_whole;
 use crate::words::RunWords;
 use std::alloc::Global;
 use sy_board::Guard;
 use sy_checker::check_site;
-use sy_commands::identity::{Identity, identity_of};
 use sy_commands::reading::read_for;
 use sy_places::site_file::texts::SiteTexts;
 use sy_report::outcome::report::report_texts;
@@ -72,7 +72,7 @@ fn checked<W: Sink, E: Sink>(
     }
 }
 
-// The site of that name, the number of its relay, and which files these are, or the exit status. The texts are those that were read.
+// The site of that name, the number of its relay, and what its files say beside that, or the exit status. The texts are those that were read.
 #[tactic(auto, using(crate::proofs::Halted::at_most_four))]
 fn named<'a, F: Files, E: Sink>(
     alloc: Global,
@@ -80,7 +80,7 @@ fn named<'a, F: Files, E: Sink>(
     files: &F,
     texts: &mut SiteTexts<'a>,
     errors: &mut E,
-) -> Result<(Site, u32, Identity), u8>
+) -> Result<(Site, u32, FilesRead), u8>
     ensures site { IfOk result (λ found. (text : List ℕ) → F.bytes_of files.now words.entry.site.now ≡ Some text →
         IsSiteOf (F.bytes_of files.now) text found.0) }
     ensures relay { IfOk result (λ found. relay_named found.0.relays words.entry.relay.now ≡ Some found.1) }
@@ -91,12 +91,12 @@ fn named<'a, F: Files, E: Sink>(
         Ok(site) => site,
         Err(halt) => return Err(print_halt(alloc, texts, words, &halt, errors)),
     };
-    let Some(identity) = identity_of(alloc, texts) else {
-        return Err(out_of_memory(errors));
+    let Some(relay) = site.relay_named(words.relay.as_bytes()) else {
+        return Err(no_relay(alloc, &site, words, errors));
     };
-    match site.relay_named(words.relay.as_bytes()) {
-        Some(relay) => Ok((site, relay, identity)),
-        None => Err(no_relay(alloc, &site, words, errors)),
+    match files_read(alloc, texts, relay) {
+        Some(read) => Ok((site, relay, read)),
+        None => Err(out_of_memory(errors)),
     }
 }
 
@@ -122,7 +122,7 @@ fn guard_if<W: Sink, E: Sink>(
     }
 }
 
-/// What the words name: a site, the number of its relay, the relay's guard, where the site is checked and sound, and which files were read. With
+/// What the words name: a site, the number of its relay, the relay's guard, where the site is checked and sound, and what its files say beside that. With
 /// `is_unchecked` no check is made, and there is no guard. Else an exit status, and what is to be said of it is printed.
 #[tactic(auto, using(sy_endpoints::proofs::Named::is_there))]
 pub fn ready<F: Files, W: Sink, E: Sink>(
@@ -130,7 +130,7 @@ pub fn ready<F: Files, W: Sink, E: Sink>(
     words: RunWords<'_>,
     files: &F,
     out: &mut Outputs<W, E>,
-) -> Result<(Site, u32, Option<Guard>, Identity), u8>
+) -> Result<(Site, u32, Option<Guard>, FilesRead), u8>
     ensures site { IfOk result (λ found. (text : List ℕ) → F.bytes_of files.now words.entry.site.now ≡ Some text →
         IsSiteOf (F.bytes_of files.now) text found.0) }
     ensures relay { IfOk result (λ found. relay_named found.0.relays words.entry.relay.now ≡ Some found.1) }
@@ -140,7 +140,7 @@ pub fn ready<F: Files, W: Sink, E: Sink>(
     ensures status { IfErr result (λ status. status ≤ 4) }
 {
     let mut texts = SiteTexts::empty(alloc, words.site);
-    let (site, relay, identity) = match named(alloc, words, files, &mut texts, &mut out.errors) {
+    let (site, relay, read) = match named(alloc, words, files, &mut texts, &mut out.errors) {
         Ok(found) => found,
         Err(status) => return Err(status),
     };
@@ -173,7 +173,7 @@ pub fn ready<F: Files, W: Sink, E: Sink>(
         words.unread,
         &mut out.errors,
     ) {
-        Ok(()) => Ok((site, relay, guard, identity)),
+        Ok(()) => Ok((site, relay, guard, read)),
         Err(status) => Err(status),
     }
 }

@@ -86,6 +86,7 @@ fn change_for(why: Refusal) -> &'static str {
         Refusal::NoFrames => "the name of an unread file, or of one that isn't there,",
         Refusal::NoName => "a name in UTF-8",
         Refusal::Twice => "the same name for it everywhere, or another file",
+        Refusal::NotRegular => "the name of a file",
         Refusal::Host(_) => {
             "let the user that starts syc write it (StateDirectory= or ReadWritePaths= of a unit), or another name"
         }

@@ -1,1 +1,2 @@
 mod Spares
+pub mod Printed

@@ -15,6 +15,7 @@ use Rattle.sy_conversion.specs.declared.fates.Told.{Told}
 use Rattle.sy_site.specs.Sites.{Site}
 use Rattle.sy_site.specs.machine.Soundness.{IsSound}
 use Rattle.sy_site.specs.texts.Describes.{Describes, file}
+use Rattle.sy_host_parameters.specs.HostParameters.{IsMachineText}
 use Rattle.sy_survey.specs.Together.{Together}
 
 abbrev pub entry_line : Input → List ℕ
@@ -52,13 +53,19 @@ pub record IsPlanOf (plan : List ℕ) (relay : Plan) : Type 0 where
   pub is_script : IsScript plan script
   pub is_plan : IsPlan script relay
 
--- This plan was written with something behind it, a relay reads it, and the site with it is sound.
-pub record IsRelay (selector plan : List ℕ) (IsWritten : List ℕ → Type 0) : Type 0 where
-  pub behind : List ℕ
-  pub written : IsWritten (plan ++ behind)
+-- A relay reads this text, without its parameters for the host, and the site with that is sound.
+pub record IsSoundText (selector text : List ℕ) : Type 0 where
+  pub machine : List ℕ
+  pub is_machine : IsMachineText text machine
   pub relay : Plan
-  pub is_relay : IsPlanOf plan relay
-  pub sound : IsSoundRelay selector plan relay
+  pub is_relay : IsPlanOf machine relay
+  pub sound : IsSoundRelay selector machine relay
+
+-- This text was written with something behind it, and is such a relay's.
+pub record IsRelay (selector text : List ℕ) (IsWritten : List ℕ → Type 0) : Type 0 where
+  pub behind : List ℕ
+  pub written : IsWritten (text ++ behind)
+  pub relay : IsSoundText selector text
 
 -- A relay's configuration is made of all of the text.
 pub record IsCarriedOver (selector text : List ℕ) (IsWritten : List ℕ → Type 0) : Type 0 where

@@ -4,6 +4,7 @@ ghost use Rattle.std.specs.Io.KnownBytes.{Appends};
 ghost use Rattle.std.specs.List.{list_any};
 ghost use Rattle.sy_conversion.specs.Conversions.{loses};
 ghost use Rattle.sy_fleet_text.specs.Texts.{IsText};
+ghost use Rattle.sy_host_parameters.specs.HostParameters.{IsMachineText};
 ghost use Rattle.sy_site.specs.machine.Soundness.{IsSound};
 ghost use Rattle.sy_survey.specs.Converting as spec;
 
@@ -19,6 +20,7 @@ use sy_conversion::{Conversion, converted};
 use sy_findings::verdicts::check::say_checked;
 use sy_fleet::fleet_of;
 use sy_fleet_text::{Piece, read_text};
+use sy_host_parameters::machine_text;
 use sy_report::outcome::answer::{Answer, print, stop};
 use sy_report::outcome::halt::Halt;
 use sy_report::reading::files::{FileFault, Files};
@@ -293,26 +295,44 @@ fn with_verdict(
     }
 }
 
-// The answer on a relay's configuration that is read.
+// The text that a relay's plan is read from.
+fn machine_of(alloc: Global, text: &[u8]) -> Result<Vec<u8>, Halt>
+    ensures { IfOk result (λ machine. IsMachineText text.now machine.items) }
+{
+    let machine = match machine_text(alloc, text) {
+        Ok(Some(machine)) => return Ok(machine),
+        Ok(None) => Vec::from_slice(alloc, text),
+        Err(_) => return Err(Halt::NoMemory),
+    };
+    match machine {
+        Ok(machine) => Ok(machine),
+        Err(_) => Err(Halt::NoMemory),
+    }
+}
+
+// The answer on a relay's configuration that is read, by the text that its plan is read from.
 fn answer_of(
     alloc: Global,
     relay: &Plan,
+    plan: &[u8],
     conversion: Conversion,
     selector: &[u8],
 ) -> Result<Answer, Halt>
+    requires machine { IsMachineText conversion.text.items plan.now }
+    requires relay { spec.IsPlanOf plan.now relay.now }
     ensures text { IfOk result (λ a. (rest : List ℕ) × (a.text.items ≡ conversion.text.items ++ rest)) }
     ensures lost { IfOk result (λ a. a.is_accepted ≡ true → list_any (λ t. loses t.fate) conversion.told.items ≡ false) }
-    ensures sound { IfOk result (λ a. a.is_accepted ≡ true → spec.IsSoundRelay selector.now conversion.text.items relay.now) }
+    ensures sound { IfOk result (λ a. a.is_accepted ≡ true → spec.IsSoundText selector.now conversion.text.items) }
 {
     let is_whole = conversion.is_whole();
     let text = conversion.text;
     if relay.inputs().is_empty() {
         return with_verdict(alloc, text, None, false);
     }
-    match sound_of(alloc, relay, text.as_slice(), selector)? {
+    match sound_of(alloc, relay, plan, selector)? {
         Some(verdict) => with_verdict(alloc, text, Some(&verdict), is_whole),
         None => {
-            let refused = refused_of(alloc, relay, text.as_slice(), selector)?;
+            let refused = refused_of(alloc, relay, plan, selector)?;
             with_verdict(alloc, text, refused.as_ref(), false)
         }
     }
@@ -329,6 +349,26 @@ fn print_unread<W: Sink, E: Sink>(text: Vec<u8>, halt: &Halt, out: &mut Outputs<
     }
 }
 
+// Prints a relay's configuration, whose plan is read from this text, with what is said of it.
+fn print_read<W: Sink, E: Sink>(
+    alloc: Global,
+    plan: &[u8],
+    conversion: Conversion,
+    selector: &[u8],
+    out: &mut Outputs<W, E>,
+) -> u8
+    requires machine { IsMachineText conversion.text.items plan.now }
+    ensures status { result ≤ 4 }
+    ensures lost { result ≡ 0 → list_any (λ t. loses t.fate) conversion.told.items ≡ false }
+    ensures printed { result ≡ 0 → spec.IsRelay selector.now conversion.text.items
+        (Appends out.old.output.contents out.new.output.contents) }
+{
+    match plan_of(alloc, plan) {
+        Ok(relay) => print(answer_of(alloc, &relay, plan, conversion, selector), out),
+        Err(halt) => print_unread(conversion.text, &halt, out),
+    }
+}
+
 // Prints a relay's configuration, with what is said of it.
 fn print_conversion<W: Sink, E: Sink>(
     alloc: Global,
@@ -341,9 +381,9 @@ fn print_conversion<W: Sink, E: Sink>(
     ensures printed { result ≡ 0 → spec.IsRelay selector.now conversion.text.items
         (Appends out.old.output.contents out.new.output.contents) }
 {
-    match plan_of(alloc, conversion.text.as_slice()) {
-        Ok(relay) => print(answer_of(alloc, &relay, conversion, selector), out),
-        Err(halt) => print_unread(conversion.text, &halt, out),
+    match machine_of(alloc, conversion.text.as_slice()) {
+        Ok(plan) => print_read(alloc, plan.as_slice(), conversion, selector, out),
+        Err(halt) => stop(out, &halt),
     }
 }
 

@@ -19,13 +19,17 @@ use Rattle.sy_commands.specs.Replays.{Ending, MayRise, PiecesMayFail, ReplayIs, 
 use Rattle.sy_report.specs.Reports.{SinkState, Streams, HasReported}
 use Rattle.sy_commands.specs.Replays as replays
 use Rattle.sy_commands.specs.SiteFiles.{HasNoAnswer, HaveBytes}
-use Rattle.sy_places.specs.SiteFiles.{AreGiven, IsSiteOf}
+use Rattle.sy_host_parameters.specs.HostParameters.{IsMachineText, may_give}
+use Rattle.sy_places.specs.SiteFiles.{AreGiven, AreMachineFiles, IsSiteOf}
 use Rattle.sy_commands.specs.Verdicts.{VerifyIs}
 use Rattle.sy_report.specs.declared.command_line.command.Asked.TheVariants as asked
 use Rattle.syc.specs.declared.examples.TheConstants.{CERTIFICATE, EDGE, EVENTS, HUB, SITE}
 use Rattle.syc.proofs.Example.{eight, names_are}
 
 -- ---- the one site
+
+no_both : {b : Bool} → b ≡ true → b ≡ false → ⊥
+no_both is other = cc
 
 no_names : {a b : List ℕ} → [] ≡ a ∷ b ∷ [] → ⊥
 no_names e = cc
@@ -62,11 +66,34 @@ machine_is : machine_text SITE.now ≡ SITE.now
 unfolding words
 machine_is = refl
 
+-- none of the files has a parameter for its host
+machine_file : (text machine : List ℕ) → may_give text ≡ false → IsMachineText text machine → machine ≡ text
+machine_file text machine none (inl (nothing, is)) = is
+machine_file text machine none (inr (inl (gives, lacks, is))) = is
+machine_file text machine none (inr (inr (gives, script, read, is))) = absurd (no_both gives none)
+
+edge_gives_none : may_give EDGE.now ≡ false
+edge_gives_none = refl
+
+hub_gives_none : may_give HUB.now ≡ false
+hub_gives_none = refl
+
+machines_are : (machines : List File) → AreMachineFiles relay_files machines → machines ≡ relay_files
+machines_are [] are = absurd are
+machines_are (x ∷ []) are = absurd are.2
+machines_are (x ∷ y ∷ z ∷ zs) are = absurd are.2.2
+machines_are (x ∷ y ∷ []) are =
+    let first = same_file x (codes "edge.conf") EDGE.now are.0 (machine_file EDGE.now x.bytes edge_gives_none are.1) in
+    let second = same_file y (codes "hub.conf") HUB.now are.2.0 (machine_file HUB.now y.bytes hub_gives_none are.2.1) in
+    λ i. first i ∷ second i ∷ []
+
 module _ (one : (text : List ℕ) (files : List File) (a b : Site) → Describes text files a → Describes text files b → a ≡ b) where
   described : (site : Site) → IsSiteOf bytes_of SITE.now site → Describes SITE.now relay_files site
   described site is =
       subst (λ text. Describes text relay_files site) machine_is
-      (subst (λ files. Describes (machine_text SITE.now) files site) (given_are is.given (is.are_given.names ∙ names_are) is.are_given.bytes)
+      (subst (λ files. Describes (machine_text SITE.now) files site)
+      (machines_are is.machines (subst (λ given. AreMachineFiles given is.machines)
+      (given_are is.given (is.are_given.names ∙ names_are) is.are_given.bytes) is.are_machines))
       is.describes)
 
   pub the_site : (site : Site) → IsSiteOf bytes_of SITE.now site → IsTheSite site

@@ -51,6 +51,7 @@ use sy_report::outcome::stop;
 use sy_report::reading::files::{HostFiles, Kinds};
 use sy_report::writing::outputs::Outputs;
 use sy_running::explaining::{explain_no_memory, explain_refused, explain_status, explained_by};
+use sy_running::files_read::FilesRead;
 use sy_running::left_store::store_of;
 use sy_running::opening::{Opened, Wanted, open_all};
 use sy_running::runs_lines::runs_lines;
@@ -149,10 +150,15 @@ where
 {
     let alloc = host.alloc();
     let files = HostFiles::new(&host, kinds);
-    let (site, relay, guard, found, identity) = match prepare(alloc, words, &files, &mut out) {
+    let (site, relay, guard, found, read) = match prepare(alloc, words, &files, &mut out) {
         Ok(prepared) => prepared,
         Err(status) => return status,
     };
+    let FilesRead {
+        identity,
+        names,
+        does,
+    } = read;
     if let Err(status) = refuse_start(&host, found, is_strict, kinds, &mut out) {
         return status;
     }
@@ -172,6 +178,8 @@ where
         unread: found.unread,
         metrics: found.metrics,
         metrics_every: found.metrics_every.unwrap_or(METRICS_EVERY),
+        does: &does,
+        names: names.as_slice(),
         explained: explained_by(found),
     };
     let with = With {
@@ -330,6 +338,7 @@ where
         is_ending,
         reopens,
         drain,
+        does: wanted.does,
     };
     let reported = Notices {
         log,

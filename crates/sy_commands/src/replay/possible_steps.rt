@@ -67,7 +67,7 @@ fn site_of(alloc: Global, texts: &SiteTexts<'_>, text: &[u8]) -> Result<Option<S
     let mut files = Vec::new(alloc);
     for name in names.as_slice() {
         if let Some(file) = texts.file(name.as_str()) {
-            files.push((file.name.as_str(), file.text.as_slice()))?;
+            files.push((file.name.as_str(), file.machine_text()))?;
         }
     }
     match Site::read(alloc, text, files.as_slice()) {

@@ -66,9 +66,9 @@ fn words_on(lost: Lost) -> &'static str {
         Lost::DiskQueue =>
             "without it what waits is in memory alone, and lost where the host goes down: at a stop run --left FILE writes it to a file, which syc-run --resend sends again at the next start",
         Lost::Sync =>
-            "without it a line is given to the kernel and not synced, so that a crash of the host may lose the last ones: a file system that is mounted with sync keeps them, or an archive on a second host",
+            "without it a line is given to the kernel and not synced, so that a crash of the host may lose the last ones: sync=\"on\" of an action of type omfile has lines on the disk before they count as written",
         Lost::Modes =>
-            "without it files belong to the user that the relay runs as, with modes by its umask: User=, Group= and UMask= of its service set these",
+            "without it files belong to the user that the relay runs as: User= and Group= of its service set these, and fileCreateMode=\"0640\" of an action of type omfile sets the mode of a file that is made",
         Lost::FileInput =>
             "without it the lines of that file don't come here: imfile of an rsyslogd on that host reads it, and omfwd sends each as RFC 5424 in octet-counted frames over TCP",
         Lost::HostInput =>
@@ -78,7 +78,7 @@ fn words_on(lost: Lost) -> &'static str {
         Lost::Template =>
             "without it a line is the message as it came, in one file: programs that read the file make other forms, and a ruleset with an input of its own gives its senders a file",
         Lost::Sessions =>
-            "without it each input serves up to 10,000 connections at once, and others wait: more inputs serve more",
+            "without it each input serves up to 10,000 connections at once, and others wait: maxSessions=\"20000\" of an input, or of its module, allows more",
         Lost::Size =>
             "without it a message has up to 65,536 bytes, which is the most there is here",
     }

@@ -1,6 +1,7 @@
 //! Notes of the faults of a relay's plan: a script that is read, and says nothing that a relay can do.
 
 use crate::file_line::is_same_number;
+use crate::plan::host_values::push_host_value;
 use crate::plan::left_out::lost_without;
 use crate::plan::parameter_rows::{names_of, push_list, push_parameter, row_of};
 use crate::plan::tests::{
@@ -124,6 +125,9 @@ fn push_unknown_parameter(
     if object.word == ObjectWord::MainQueue && name.eq_ignore_ascii_case(b"queue.workerFlow") {
         note.why.say("the main queue has no parameter queue.workerFlow: nothing is posted to it");
         note.change.say("leave it out");
+        return Ok(());
+    }
+    if push_host_value(note, object, name) {
         return Ok(());
     }
     let is_of_queue = name.len() >= 6 && between(name, 0, 6).eq_ignore_ascii_case(b"queue.");

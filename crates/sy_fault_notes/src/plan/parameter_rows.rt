@@ -1,5 +1,6 @@
 //! The parameters of objects, for people who are told what to write: names, and which values they take.
 
+use crate::plan::host_values::append_host_names;
 use std::alloc::{AllocError, Global};
 use sy_places::relay_file::outline::{Object, ObjectWord, value_of};
 use sy_report::texts::parts::Part;
@@ -34,6 +35,7 @@ pub fn names_of(alloc: Global, object: Object<'_>) -> Result<Vec<&'static [u8]>,
             names.push(row.name)?;
         }
     }
+    append_host_names(&mut names, object)?;
     Ok(names)
 }
 

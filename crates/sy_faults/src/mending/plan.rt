@@ -28,8 +28,11 @@ pub struct Mended {
 
 // ---- faults that follow from what was taken away
 
-// Whether a name may be meant to be another, as `fil` or `dynaFile` to be `file`.
+// Whether a name may be meant to be another, as `fil` or `dynaFile` to be `file`. One that has a meaning of its own isn't.
 fn may_mean(name: &[u8], other: &[u8]) -> bool {
+    if name.eq_ignore_ascii_case(b"fileType") {
+        return false;
+    }
     let meant: [&[u8]; 1] = [other];
     let end = between(name, name.len().saturating_sub(other.len()), name.len());
     end.eq_ignore_ascii_case(other) || nearest(name, &meant).is_some()

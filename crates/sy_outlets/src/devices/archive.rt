@@ -1,12 +1,15 @@
 //! The file of an archive.
 ghost use Rattle.std.specs.Prelude.{◌≡◌, ◌≢◌, ◌<◌, length, IfErr, IfNone, IfSome, OnSome};
 
-use crate::rotation::opened::open_file;
+use crate::devices::opening::OpenFault;
+use crate::rotation::opened::{Unopened, open_file};
 use crate::rotation::reopens::Reopens;
 use crate::rotation::rotated::{Form, Open, Rotated, Writer};
 use std::alloc::Global;
+use std::fs::File;
 use std::sync::{Arc, MutexGuard};
 use sy_actions::{Device, DeviceFault};
+use sy_host_parameters::ArchiveHost;
 use sy_log::log::ActionLog;
 use sy_report::texts::reason::Reason;
 use sy_wire::Message;
@@ -19,35 +22,74 @@ pub struct Archive {
     reopens: Arc<Reopens>,
 }
 
+// Has the disk keep what was written, where that is asked for. Where it can't, nothing of it counts as written, and the file is
+// opened anew before any more is: a sync that failed once may answer the next time that all is well.
+fn finish(open: &mut Open) -> Result<(), DeviceFault>
+    ensures { IfErr result (λ f. f ≢ DeviceFault.CountFull) }
+{
+    let flushed = match &mut open.writer {
+        Writer::Lines(sink) => sink.flush(),
+        Writer::Frames(_) => Ok(()),
+    };
+    match flushed {
+        Ok(()) => Ok(()),
+        Err(_) => {
+            open.is_doubtful = true;
+            Err(DeviceFault::Write)
+        }
+    }
+}
+
 impl Archive {
-    /// The archive of that name, whose file is opened for appending; none where it can't be, and the reason is noted.
-    pub fn open(
+    // The archive of that file, which is open.
+    fn of_file(
         rt: HostRuntime,
         alloc: Global,
-        name: String,
+        (name, does): (String, ArchiveHost),
+        file: (File, u64),
         reopens: Arc<Reopens>,
         log: ActionLog,
     ) -> Option<Archive> {
-        let followed = reopens.asked();
-        let file = match open_file(&rt, name.as_str()) {
-            Ok(file) => file,
-            Err(error) => {
-                log.because(Reason::of(&error));
-                return None;
-            }
-        };
+        let (file, followed) = file;
         let theirs = log.try_clone().ok()?;
-        let file = Rotated::new(rt, alloc, Form::Lines, name, file, followed, (log, theirs));
+        let form = Form::Lines(does);
+        let file = Rotated::new(rt, alloc, form, name, file, followed, (log, theirs));
         let file = Arc::new(alloc, file).ok()?;
         reopens.push(Arc::try_clone(&file).ok()?).ok()?;
         Some(Archive { file, reopens })
     }
 
-    // What lines are written to, opened anew where that was asked for.
+    /// The archive of that name, whose file is opened for appending. Where it can't be, the reason is noted.
+    pub fn open(
+        rt: HostRuntime,
+        alloc: Global,
+        (name, does): (String, ArchiveHost),
+        reopens: Arc<Reopens>,
+        log: ActionLog,
+    ) -> Result<Archive, OpenFault> {
+        let followed = reopens.asked();
+        let file = match open_file(&rt, name.as_str(), does) {
+            Ok(file) => file,
+            Err(Unopened::NotRegular) => return Err(OpenFault::NotRegular),
+            Err(Unopened::Host(error)) => {
+                log.because(Reason::of(&error));
+                return Err(OpenFault::Write);
+            }
+        };
+        match Archive::of_file(rt, alloc, (name, does), (file, followed), reopens, log) {
+            Some(archive) => Ok(archive),
+            None => Err(OpenFault::NoMemory),
+        }
+    }
+
+    // What lines are written to, opened anew where that was asked for, or where a sync failed.
     fn enter(&self) -> Option<MutexGuard<'_, Open>> {
         let (open, is_new) = self.file.enter(self.reopens.asked())?;
         if is_new {
             self.reopens.wake();
+        }
+        if open.is_doubtful {
+            return None;
         }
         Some(open)
     }
@@ -70,6 +112,10 @@ impl Archive {
             Writer::Lines(sink) => sink.offer(message),
             Writer::Frames(_) => Err(DeviceFault::Write),
         };
+        let answer = match answer {
+            Ok(()) => finish(&mut open),
+            Err(fault) => Err(fault),
+        };
         drop(open);
         self.set_written();
         answer
@@ -90,6 +136,10 @@ impl Archive {
         let answer = match &mut open.writer {
             Writer::Lines(sink) => sink.offer_all(messages),
             Writer::Frames(_) => (0, Some(DeviceFault::Write)),
+        };
+        let answer = match finish(&mut open) {
+            Ok(()) => answer,
+            Err(fault) => (0, Some(fault)),
         };
         drop(open);
         self.set_written();

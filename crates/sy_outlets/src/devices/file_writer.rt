@@ -14,16 +14,30 @@ pub struct FileWriter {
     log: ActionLog,
     faults: u64,
     is_flushed: bool,
+    // whether a flush has what was written on the disk
+    is_synced: bool,
 }
 
 impl FileWriter {
-    /// A writer to this file.
-    pub fn new(file: File, log: ActionLog) -> FileWriter {
+    /// A writer to this file, whose flush has the disk keep what was written, where that is asked for.
+    pub fn new(file: File, log: ActionLog, is_synced: bool) -> FileWriter {
         FileWriter {
             file,
             log,
             faults: 0,
             is_flushed: true,
+            is_synced,
+        }
+    }
+
+    // Has the disk keep what was written, where that is asked for.
+    fn sync(&self) -> Result<(), Reason> {
+        if !self.is_synced {
+            return Ok(());
+        }
+        match self.file.sync_data() {
+            Ok(()) => Ok(()),
+            Err(error) => Err(Reason::of(&error)),
         }
     }
 }
@@ -51,7 +65,16 @@ impl Sink for FileWriter {
     }
 
     fn flush(&mut self) -> Result<(), WriteFault> {
-        self.is_flushed = true;
-        Ok(())
+        match self.sync() {
+            Ok(()) => {
+                self.is_flushed = true;
+                Ok(())
+            }
+            Err(reason) => {
+                self.log.because(reason);
+                self.faults = self.faults.saturating_add(1);
+                Err(WriteFault)
+            }
+        }
     }
 }

@@ -11,6 +11,7 @@ use std::sync::Arc;
 use std::sync::atomic::AtomicBool;
 use sy_endpoints::hosts::Peer;
 use sy_endpoints::outlets::{Outlet, connection};
+use sy_host_parameters::ArchiveHost;
 use sy_log::log::ActionLog;
 
 /// What devices look at.
@@ -36,13 +37,15 @@ impl Signals {
 pub enum OpenFault {
     /// The file can't be opened for appending, or its name isn't UTF-8.
     Write,
+    /// What has its name is no regular file, and is to be one.
+    NotRegular,
     NoMemory,
 }
 
 fn archive(
     rt: HostRuntime,
     alloc: Global,
-    name: &[u8],
+    (name, does): (&[u8], ArchiveHost),
     reopens: &Arc<Reopens>,
     log: ActionLog,
 ) -> Result<Taker, OpenFault> {
@@ -55,9 +58,9 @@ fn archive(
     let Ok(reopens) = Arc::try_clone(reopens) else {
         return Err(OpenFault::NoMemory);
     };
-    match Archive::open(rt, alloc, name, reopens, log) {
-        Some(archive) => Ok(Taker::Archive(archive)),
-        None => Err(OpenFault::Write),
+    match Archive::open(rt, alloc, (name, does), reopens, log) {
+        Ok(archive) => Ok(Taker::Archive(archive)),
+        Err(fault) => Err(fault),
     }
 }
 
@@ -88,17 +91,17 @@ fn link(
     }
 }
 
-/// What takes the messages that are brought there. A file is opened for appending, and anew as that is asked for; a link is
-/// connected when it is needed. Why an offer fails is noted.
+/// What takes the messages that are brought there. A file is opened for appending, by what its host is to do for it, and anew as that is
+/// asked for; a link is connected when it is needed. Why an offer fails is noted.
 pub fn taker(
     rt: HostRuntime,
     alloc: Global,
-    outlet: Outlet<'_>,
+    (outlet, does): (Outlet<'_>, ArchiveHost),
     signals: &Signals,
     log: ActionLog,
 ) -> Result<Taker, OpenFault> {
     if let Outlet::File(name) = outlet {
-        return archive(rt, alloc, name, &signals.reopens, log);
+        return archive(rt, alloc, (name, does), &signals.reopens, log);
     }
     match connection(outlet) {
         Some(to) => link(rt, alloc, to, &signals.is_ending, log),

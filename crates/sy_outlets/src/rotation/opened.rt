@@ -1,9 +1,16 @@
 //! Opening the file of an archive.
 
-use std::fs::{self, File, Metadata, OpenOptions};
+use std::fs::{self, File, Files, Metadata, OpenOptions};
 use std::io::{self, Error, ErrorKind, Read, Seek, SeekFrom, Write};
-use std::os::unix::fs::{FileTypeExt, MetadataExt};
+use std::os::unix::fs::{FileTypeExt, MetadataExt, OpenOptionsExt};
+use sy_host_parameters::ArchiveHost;
 use sy_report::texts::reason::Reason;
+
+/// The mode of folders that are made, as rsyslog's `dirCreateMode` has it where it isn't given.
+const FOLDER_MODE: u32 = 0o700;
+
+/// The mode of a file whose own can't be had.
+const PRIVATE: u32 = 0o600;
 
 /// Why a file can't be opened.
 #[derive(Clone, Copy)]
@@ -16,6 +23,8 @@ pub enum Refusal {
     NoName,
     /// It is an unread file by another name too.
     Twice,
+    /// What has its name is no regular file, and is to be one.
+    NotRegular,
     Host(Reason),
 }
 
@@ -35,6 +44,7 @@ impl Refusal {
             Refusal::NoFrames => u64::MAX - 2,
             Refusal::NoName => u64::MAX - 3,
             Refusal::Twice => u64::MAX - 4,
+            Refusal::NotRegular => u64::MAX - 5,
             Refusal::Host(reason) => reason.code(),
         }
     }
@@ -100,12 +110,95 @@ fn may_be_torn(rt: &HostRuntime, name: &str, file: &File) -> bool {
     !ends_in_line_feed(rt, name).unwrap_or(false)
 }
 
-/// The file of that name, to whose end lines are written. Where it ends in the middle of a line, or that isn't known, a line
-/// feed is written first.
-pub fn open_file(rt: &HostRuntime, name: &str) -> io::Result<File> {
-    let mut file = OpenOptions::new().append(true).create(true).open(rt, name)?;
+/// Why a file to which lines are to be written isn't opened.
+#[derive(Drop)]
+pub enum Unopened {
+    NotRegular,
+    Host(Error),
+}
+
+impl Unopened {
+    /// The same as a refusal.
+    pub fn refusal(&self) -> Refusal {
+        match self {
+            Unopened::NotRegular => Refusal::NotRegular,
+            Unopened::Host(error) => Refusal::of(error),
+        }
+    }
+}
+
+// Whether something that is no regular file has that name. (A folder can't be opened so, which the host says.)
+fn is_other(rt: &HostRuntime, name: &str) -> bool {
+    match fs::metadata(rt, name) {
+        Ok(about) => !about.is_file() && !about.is_dir(),
+        Err(_) => false,
+    }
+}
+
+// The folder of a name, with its last slash; none where the name has no slash.
+fn folder_of(name: &str) -> Option<&str> {
+    let at = name.rfind('/')?;
+    name.get(..at + 1)
+}
+
+// Has the disk keep that a file is in its folder.
+fn sync_folder(rt: &HostRuntime, name: &str) -> io::Result<()> {
+    let folder = folder_of(name).unwrap_or("./");
+    File::open(rt, folder)?.sync_all()
+}
+
+// Makes a folder, where it isn't there, and has the disk keep that, where that is asked for.
+fn make_folder(rt: &HostRuntime, name: &str, is_synced: bool) -> io::Result<()> {
+    match rt.create_dir_with_mode(name, FOLDER_MODE) {
+        Ok(()) if is_synced => sync_folder(rt, name),
+        Ok(()) => Ok(()),
+        Err(error) if error.kind() == ErrorKind::AlreadyExists => Ok(()),
+        Err(error) => Err(error),
+    }
+}
+
+// Makes the folders of a name that aren't there.
+fn make_folders(rt: &HostRuntime, name: &str, is_synced: bool) -> io::Result<()> {
+    let Some(folder) = folder_of(name) else {
+        return Ok(());
+    };
+    for (at, _) in folder.match_indices('/') {
+        match folder.get(..at) {
+            Some(front) if !front.is_empty() => make_folder(rt, front, is_synced)?,
+            _ => {}
+        }
+    }
+    Ok(())
+}
+
+// Opens a file for appending, with what its host is to do for it.
+fn open_by(rt: &HostRuntime, name: &str, does: ArchiveHost) -> io::Result<File> {
+    if does.makes_folders {
+        make_folders(rt, name, does.is_synced)?;
+    }
+    let mode = u32::try_from(does.create_mode).unwrap_or(PRIVATE);
+    let mut file = OpenOptions::new()
+        .append(true)
+        .create(true)
+        .mode(mode)
+        .open(rt, name)?;
     if may_be_torn(rt, name, &file) {
         file.write_all(b"\n")?;
     }
+    if does.is_synced {
+        sync_folder(rt, name)?;
+    }
     Ok(file)
+}
+
+/// The file of that name, to whose end lines are written. Where it ends in the middle of a line, or that isn't known, a line
+/// feed is written first.
+pub fn open_file(rt: &HostRuntime, name: &str, does: ArchiveHost) -> Result<File, Unopened> {
+    if !does.may_be_any && is_other(rt, name) {
+        return Err(Unopened::NotRegular);
+    }
+    match open_by(rt, name, does) {
+        Ok(file) => Ok(file),
+        Err(error) => Err(Unopened::Host(error)),
+    }
 }

@@ -11,6 +11,7 @@ use std::sync::{Mutex, MutexGuard};
 use std::thread;
 use std::time::Duration;
 use sy_actions::LineSink;
+use sy_host_parameters::ArchiveHost;
 use sy_log::log::ActionLog;
 use sy_report::texts::reason::Reason;
 
@@ -28,10 +29,10 @@ pub struct Known {
     pub node: Option<Node>,
 }
 
-/// What is written to a file: lines, or whole frames.
-#[derive(Clone, Copy, PartialEq, Eq)]
+/// What is written to a file: lines, with what the host is to do for it, or whole frames.
+#[derive(Clone, Copy)]
 pub enum Form {
-    Lines,
+    Lines(ArchiveHost),
     Frames,
 }
 
@@ -46,7 +47,10 @@ impl Writer {
     /// To this file.
     pub fn new(alloc: Global, form: Form, file: File, log: ActionLog) -> Writer {
         match form {
-            Form::Lines => Writer::Lines(LineSink::new(alloc, FileWriter::new(file, log))),
+            Form::Lines(does) => {
+                let writer = FileWriter::new(file, log, does.is_synced);
+                Writer::Lines(LineSink::new(alloc, writer))
+            }
             Form::Frames => Writer::Frames(FrameFile::new(file, log)),
         }
     }
@@ -57,6 +61,8 @@ impl Writer {
 pub struct Open {
     pub writer: Writer,
     followed: u64,
+    /// Whether what was written last may not be on the disk though it was to be, so that the file is opened anew before any more is.
+    pub is_doubtful: bool,
 }
 
 /// The file of an archive, or an unread file. Its device writes to it under a lock. Who watches over it tries that lock and doesn't wait for it: so
@@ -110,7 +116,11 @@ impl Rotated {
             form,
             path,
             log,
-            open: Mutex::new(Open { writer, followed }),
+            open: Mutex::new(Open {
+                writer,
+                followed,
+                is_doubtful: false,
+            }),
             known: Mutex::new(known),
             is_written: AtomicBool::new(false),
         }
@@ -159,9 +169,9 @@ impl Rotated {
             return Err(Refusal::Host(Reason::NoMemory));
         };
         let file = match self.form {
-            Form::Lines => match open_file(&self.rt, self.path.as_str()) {
+            Form::Lines(does) => match open_file(&self.rt, self.path.as_str(), does) {
                 Ok(file) => file,
-                Err(error) => return Err(Refusal::of(&error)),
+                Err(why) => return Err(why.refusal()),
             },
             Form::Frames => open_whole(&self.rt, self.alloc, self.path.as_str())?,
         };
@@ -179,6 +189,7 @@ impl Rotated {
             Ok((writer, node)) => {
                 open.writer = writer;
                 open.followed = asked;
+                open.is_doubtful = false;
                 self.note(Known {
                     tried: asked,
                     followed: asked,
@@ -192,6 +203,14 @@ impl Rotated {
                 refusal: Some(refusal),
                 node,
             }),
+        }
+    }
+
+    // Whether it may be a pipe.
+    fn may_be_pipe(&self) -> bool {
+        match self.form {
+            Form::Lines(does) => does.may_be_any,
+            Form::Frames => true,
         }
     }
 
@@ -219,7 +238,8 @@ impl Rotated {
     /// stands whether there is something to be told.
     pub fn enter(&self, asked: u64) -> Option<(MutexGuard<'_, Open>, bool)> {
         let mut open = locked(&self.rt, &self.open)?;
-        let is_new = asked > open.followed && self.follow(&mut open, asked);
+        let is_due = asked > open.followed || open.is_doubtful;
+        let is_new = is_due && self.follow(&mut open, asked);
         Some((open, is_new))
     }
 
@@ -231,7 +251,7 @@ impl Rotated {
         if asked <= open.followed {
             return;
         }
-        if is_pipe(&self.rt, self.path.as_str()) {
+        if self.may_be_pipe() && is_pipe(&self.rt, self.path.as_str()) {
             self.keep_pipe(&mut open, asked);
         } else {
             let _ = self.follow(&mut open, asked);

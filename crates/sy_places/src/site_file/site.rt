@@ -4,12 +4,14 @@ ghost use Rattle.sy_site.specs.texts.Describes.{Describes, file};
 ghost use Rattle.sy_site.specs.texts.Files as texts;
 ghost use Rattle.sy_site.specs.texts.HasFault.{HasFault};
 ghost use Rattle.sy_tunnels.specs.Tunnels.{NameLinks, machine_text};
-ghost use Rattle.sy_places.specs.SiteFiles.{AreFilesOf, AreGiven, IsFaultWith, IsSiteOf};
-ghost use Rattle.sy_places.specs.internal.Halts.{HasSiteHalt, IsHaltOf, file_of};
+ghost use Rattle.sy_host_parameters.specs.HostParameters.{IsMachineText, machine_or};
+ghost use Rattle.sy_places.specs.SiteFiles.{AreFilesOf, AreGiven, AreMachineFiles, IsFaultWith, IsSiteOf};
+ghost use Rattle.sy_places.specs.internal.Halts.{HasSiteHalt, IsHaltOf, file_of, machine_file_of};
 ghost use Rattle.sy_places.specs.Halts.{IsNoSite, IsReadHalt, IsUnread};
 
 use crate::site_file::texts::{RelayText, SiteText, SiteTexts};
 use std::alloc::{AllocError, Global};
+use sy_host_parameters::machine as host_parameters;
 use sy_report::outcome::halt::Halt;
 use sy_report::reading::files::{FileFault, Files};
 use sy_site::{Site, SiteFault, file_names};
@@ -34,6 +36,19 @@ fn read_file<F: Files>(files: &F, name: &str) -> Result<Vec<u8>, Halt>
     }
 }
 
+// A relay's file of that name and text.
+fn relay_text(alloc: Global, name: String, text: Vec<u8>) -> Result<RelayText, AllocError>
+    ensures same { IfOk result (λ read. (read.name ≡ name) × (read.text ≡ text)) }
+    ensures machine { IfOk result (λ read. IsMachineText read.text.items (machine_or read.text.items read.machine)) }
+{
+    let machine = host_parameters::machine_text(alloc, text.as_slice())?;
+    Ok(RelayText {
+        name,
+        text,
+        machine,
+    })
+}
+
 // The files of these names, in their order.
 fn read_files<F: Files>(
     alloc: Global,
@@ -41,6 +56,7 @@ fn read_files<F: Files>(
     names: Vec<String>,
 ) -> Result<Vec<RelayText>, Halt>
     ensures ok { IfOk result (λ found. AreGiven (F.bytes_of files.now) (map file_of found.items)) }
+    ensures machines { IfOk result (λ found. AreMachineFiles (map file_of found.items) (map machine_file_of found.items)) }
     ensures names { IfOk result (λ found. map (λ f. string_bytes f.name) found.items ≡ map string_bytes names.items) }
     ensures err { IfErr result (λ halt. (halt ≡ Halt.NoMemory) ⊎ (halt ≡ Halt.ReadFailed)) }
     ensures unread { IfErr result (IsUnread (F.may_fail files.now) (map string_bytes names.items)) }
@@ -48,7 +64,10 @@ fn read_files<F: Files>(
     let mut found = Vec::new(alloc);
     for name in names {
         let text = read_file(files, name.as_str())?;
-        let Ok(()) = found.push(RelayText { name, text }) else {
+        let Ok(read) = relay_text(alloc, name, text) else {
+            return Err(Halt::NoMemory);
+        };
+        let Ok(()) = found.push(read) else {
             return Err(Halt::NoMemory);
         };
     }
@@ -56,11 +75,11 @@ fn read_files<F: Files>(
 }
 
 fn lend(alloc: Global, files: &[RelayText]) -> Result<Vec<(&str, &[u8])>, AllocError>
-    ensures { IfOk result (λ lent. map (λ f. file f.0.now f.1.now) lent.items ≡ map file_of files.now) }
+    ensures { IfOk result (λ lent. map (λ f. file f.0.now f.1.now) lent.items ≡ map machine_file_of files.now) }
 {
     let mut lent = Vec::new(alloc);
     for file in files {
-        lent.push((file.name.as_str(), file.text.as_slice()))?;
+        lent.push((file.name.as_str(), file.machine_text()))?;
     }
     Ok(lent)
 }
@@ -68,6 +87,7 @@ fn lend(alloc: Global, files: &[RelayText]) -> Result<Vec<(&str, &[u8])>, AllocE
 // The files that a site file of this text names.
 fn files_of<F: Files>(alloc: Global, files: &F, text: &[u8]) -> Result<Vec<RelayText>, Halt>
     ensures ok { IfOk result (λ found. AreFilesOf (F.bytes_of files.now) text.now (map file_of found.items)) }
+    ensures machines { IfOk result (λ found. AreMachineFiles (map file_of found.items) (map machine_file_of found.items)) }
     ensures err { IfErr result (IsNoSite (F.bytes_of files.now) text.now) }
     ensures kind { IfErr result IsReadHalt }
     ensures unread { IfErr result (IsUnread (F.may_fail files.now) (texts.file_names text.now)) }
@@ -88,10 +108,10 @@ fn halt_of(fault: SiteFault) -> Halt
     }
 }
 
-// The site of a text, without its tunnel lines, and of the files that it names.
+// The site of a text, without its tunnel lines, and of the files that it names, without their parameters for the host.
 fn site_in(alloc: Global, machine: &[u8], files: &[RelayText]) -> Result<Site, SiteFault>
-    ensures ok { IfOk result (λ site. Describes machine.now (map file_of files.now) site) }
-    ensures err { IfErr result (λ fault. (fault ≡ SiteFault.NoMemory) ⊎ HasFault machine.now (map file_of files.now) fault) }
+    ensures ok { IfOk result (λ site. Describes machine.now (map machine_file_of files.now) site) }
+    ensures err { IfErr result (λ fault. (fault ≡ SiteFault.NoMemory) ⊎ HasFault machine.now (map machine_file_of files.now) fault) }
 {
     let Ok(lent) = lend(alloc, files) else {
         return Err(SiteFault::NoMemory);
@@ -107,9 +127,9 @@ fn site_of_files(
     files: &[RelayText],
 ) -> Result<Site, SiteFault>
     requires machine { machine.now ≡ machine_text text.now }
-    ensures ok { IfOk result (λ site. Describes (machine_text text.now) (map file_of files.now) site) }
+    ensures ok { IfOk result (λ site. Describes (machine_text text.now) (map machine_file_of files.now) site) }
     ensures links { IfOk result (λ site. NameLinks site text.now) }
-    ensures err { IfErr result (λ fault. (fault ≡ SiteFault.NoMemory) ⊎ IsFaultWith text.now (map file_of files.now) fault) }
+    ensures err { IfErr result (λ fault. (fault ≡ SiteFault.NoMemory) ⊎ IsFaultWith text.now (map machine_file_of files.now) fault) }
 {
     let site = site_in(alloc, machine, files)?;
     tunnels_of(alloc, &site, text)?;
@@ -125,9 +145,9 @@ fn site_with<'a>(
     found: Vec<RelayText>,
 ) -> ReadSite<'a>
     requires machine { machine.items ≡ machine_text text.items }
-    ensures ok { IfOk result.site (λ site. Describes (machine_text text.items) (map file_of found.items) site) }
+    ensures ok { IfOk result.site (λ site. Describes (machine_text text.items) (map machine_file_of found.items) site) }
     ensures links { IfOk result.site (λ site. NameLinks site text.items) }
-    ensures err { IfErr result.site (HasSiteHalt text.items (map file_of found.items)) }
+    ensures err { IfErr result.site (HasSiteHalt text.items (map machine_file_of found.items)) }
 {
     let site = match site_of_files(alloc, text.as_slice(), machine.as_slice(), found.as_slice()) {
         Ok(site) => Ok(site),

@@ -2,22 +2,40 @@
 //! read once, however much is said of them, and lent from then on. A script is read from its text where it is wanted, since
 //! those of all relays would take more memory than the site does.
 
+ghost use Rattle.std.specs.Prelude.{◌≡◌};
+ghost use Rattle.sy_host_parameters.specs.HostParameters.{machine_or};
+
 use crate::relay_file::places::{file_name_in, is_relay_line};
 use crate::site_file::source::text_of;
 use std::alloc::{AllocError, Global};
+use sy_host_parameters::machine_text;
 use sy_report::reading::files::{FileFault, Files, Reason, is_standard_input};
 use sy_script::tree::Script;
 use sy_script::{FaultCode, read_script};
 use sy_site::without_return;
 
-/// The text of a relay's file, with its name as the site file writes it.
+/// The text of a relay's file as it was read, with its name as the site file writes it, and as its plan is read from it, where
+/// that is another: there blanks stand in the place of parameters for the host.
 #[derive(Drop)]
 pub struct RelayText {
     pub name: String,
     pub text: Vec<u8>,
+    pub machine: Option<Vec<u8>>,
 }
 
-/// A relay's file: its name as the site file writes it, its bytes, and its script, where it is one.
+impl RelayText {
+    /// The text that the relay's plan is read from.
+    pub fn machine_text(&self) -> &[u8]
+        ensures { result.now ≡ machine_or self.now.text.items self.now.machine }
+    {
+        match &self.machine {
+            Some(machine) => machine.as_slice(),
+            None => self.text.as_slice(),
+        }
+    }
+}
+
+/// A relay's file: its name as the site file writes it, its bytes, and its plan's script, where it has one.
 #[derive(Drop)]
 pub struct RelayFile<'a> {
     pub name: &'a str,
@@ -164,7 +182,7 @@ pub fn relay_file<'a>(
     let Some(found) = text else {
         return Ok(None);
     };
-    match script_of(alloc, found.text.as_slice()) {
+    match script_of(alloc, found.machine_text()) {
         Ok(script) => Ok(Some(RelayFile {
             name: found.name.as_str(),
             text: found.text.as_slice(),
@@ -222,7 +240,12 @@ fn place_or_read<F: Files>(
     match text_of(files, name)? {
         Some(text) => {
             let name = String::from_str(alloc, name)?;
-            texts.files.push(RelayText { name, text })?;
+            let machine = machine_text(alloc, text.as_slice())?;
+            texts.files.push(RelayText {
+                name,
+                text,
+                machine,
+            })?;
             Ok(Some(texts.files.len() - 1))
         }
         None => {

@@ -1,0 +1,10 @@
+use Rattle.std.proofs.Common.{◌≡◌, ◌++◌, length, map, flat_map}
+use Rattle.sy_rules.specs.items.ItemViews.{item}
+use Rattle.sy_host_parameters.specs.Hosts.{given_in_module}
+use Rattle.sy_host_parameters.proofs.host.usual_of.Given as goal
+
+abbrev pub invariant-loop-rest : goal.invariant-loop-rest
+invariant-loop-rest l = l.found.items ++ flat_map given_in_module (map item l.rest) ≡ flat_map given_in_module (map item l.items)
+
+abbrev pub decreases-loop-rest : goal.decreases-loop-rest
+decreases-loop-rest l = length l.rest

@@ -1,0 +1,3 @@
+pub mod HostParameters
+pub mod Hosts
+pub mod internal

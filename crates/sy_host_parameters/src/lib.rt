@@ -1,0 +1,12 @@
+//! Parameters of a relay's file that say how its host does its part. Its machine doesn't know them.
+#![tactic(auto)]
+
+pub mod given;
+pub mod host;
+pub mod machine;
+mod rows;
+mod values;
+
+pub use host::{ArchiveHost, ReceiverHost, RelayHost, host_of};
+pub use machine::machine_text;
+pub use rows::HostParameter;
