@@ -10,7 +10,7 @@ import time
 from shutil import which
 
 from peers import Pump, Sender, message, messages, send_all
-from room import ANY, LeftOut, imtcp, is_listening, main_queue, module, omfile, same, test, totals, until
+from room import ANY, LeftOut, imtcp, is_listening, main_queue, module, omfile, omfwd, same, test, totals, until
 
 
 @test
@@ -380,6 +380,18 @@ def archive_has_the_mode_that_is_given(room):
         room.start("hub", port, words=["site", "hub"], limits=lambda: os.umask(mask)).stops_with(totals(0, 0, 0, ("audit", 0, 0, 0, 0)))
         same(f"mode by{more} and the umask {mask:o}", os.stat(room.path("audit.log")).st_mode & 0o777, mode)
         os.unlink(room.path("audit.log"))
+
+
+@test
+def archives_by_their_own_relays_files(room):
+    entry, inner = room.port(), room.port()
+    room.site({"edge": module() + imtcp(entry) + omfile("kept", "kept.log", more=' fileCreateMode="0644"') + omfwd("up", "hub", inner),
+               "hub": module() + imtcp(inner) + omfile("first", "first.log") + omfile("audit", "audit.log", more=' fileCreateMode="0600"')},
+              f"entry edge {entry}", "protect auth.* hub audit")
+    room.start("hub", inner).stops_with(totals(0, 0, 0, ("first", 0, 0, 0, 0), ("audit", 0, 0, 0, 0)))
+    room.start("edge", entry).stops_with(totals(0, 0, 0, ("kept", 0, 0, 0, 0), ("up", 0, 0, 0, 0)))
+    modes = [os.stat(room.path(f"{it}.log")).st_mode & 0o777 for it in ("kept", "first", "audit")]
+    same("modes", modes, [0o644, 0o640, 0o600])
 
 
 @test
