@@ -103,6 +103,8 @@ def run_all(tests, program, jobs, name, between=RELAY):
                     counts[re.split("[:,]", said)[0] or "passed"] += 1
                     if said:
                         print(f"{name}: {it.test.name}: {said}", flush=True)
+            if counts["left out"]:
+                print(f"{name}: {counts['left out']} left out", flush=True)
         finally:
             for it in running:
                 it.end()

@@ -1,0 +1,4 @@
+pub mod Exact
+pub mod Readings
+pub mod Lines
+pub mod Runs

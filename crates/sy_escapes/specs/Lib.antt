@@ -1,0 +1,4 @@
+pub mod internal
+pub mod Escapes
+pub mod Reading
+pub mod Sinks
