@@ -1,4 +1,3 @@
 pub mod Ports
 pub mod Left
 pub mod internal
-pub mod FileWriters

@@ -1,5 +1,4 @@
 pub mod Audit
-pub mod ArchiveFiles
 pub mod Following
 pub mod Holding
 pub mod Holders
