@@ -3,7 +3,7 @@
 ghost use Rattle.std.specs.Prelude.{◌≡◌, ◌≢◌, ◌<◌, ◌≤◌, [], length, map, take, true, IfErr, IfNone, IfOk, IfSome, OnErr, OnOk, OnSome};
 ghost use Rattle.std.specs.Arc.{arc_value};
 ghost use Rattle.std.specs.Io.KnownBytes.{Appends, Keeps};
-ghost use Rattle.sy_wire.specs.Streams.{with_held};
+ghost use Rattle.sy_wire.specs.Streams.{Rose, with_held};
 ghost use Rattle.sy_escapes.specs.Sinks as spec;
 ghost use Rattle.sy_escapes.specs.internal.Runs.{Run};
 
@@ -51,6 +51,8 @@ impl<W: Sink + Drop> EscapedSink<W> {
         ensures ok { IfOk result (λ count. (count ≡ spec.begun self.old.batch (map arc_value messages.now)) × (spec.rest self.new.batch ≡ [])) }
         ensures err { OnErr result (spec.last_line self.new.batch ≡ spec.last_line self.old.batch) }
         ensures fault { IfErr result (λ f. (f ≢ DeviceFault.CountFull) × (f ≢ DeviceFault.Broken)) }
+        ensures none { OnOk result (W.faults self.new.writer ≡ W.faults self.old.writer) }
+        ensures cause { IfErr result (λ f. f ≡ DeviceFault.Write → Rose (W.faults self.old.writer) (W.faults self.new.writer)) }
         ensures bytes { Keeps (with_held (W.contents self.old.writer) (spec.rest self.old.batch))
             (with_held (W.contents self.new.writer) (spec.rest self.new.batch)) }
     {
@@ -71,6 +73,8 @@ impl<W: Sink + Drop> EscapedSink<W> {
         ensures more { IfNone result.1 (0 < result.0) }
         ensures less { OnSome result.1 (result.0 < length messages.now) }
         ensures own { IfSome result.1 (λ f. (f ≢ DeviceFault.CountFull) × (f ≢ DeviceFault.Broken)) }
+        ensures none { IfNone result.1 (W.faults self.new.writer ≡ W.faults self.old.writer) }
+        ensures cause { IfSome result.1 (λ f. f ≡ DeviceFault.Write → Rose (W.faults self.old.writer) (W.faults self.new.writer)) }
         ensures run { Run (W.contents self.old.writer) (W.contents self.new.writer) self.old.batch self.new.batch
             (map arc_value messages.now) result.0 result.1 }
     {
@@ -92,6 +96,8 @@ impl<W: Sink + Drop> EscapedSink<W> {
         ensures all { IfNone result.1 (result.0 ≡ length messages.now) }
         ensures some { OnSome result.1 (result.0 < length messages.now) }
         ensures own { IfSome result.1 (λ f. (f ≢ DeviceFault.CountFull) × (f ≢ DeviceFault.Broken)) }
+        ensures none { IfNone result.1 (W.faults self.new.writer ≡ W.faults self.old.writer) }
+        ensures cause { IfSome result.1 (λ f. f ≡ DeviceFault.Write → Rose (W.faults self.old.writer) (W.faults self.new.writer)) }
         ensures run { Run (W.contents self.old.writer) (W.contents self.new.writer) self.old.batch self.new.batch
             (map arc_value messages.now) result.0 result.1 }
     {
@@ -113,6 +119,8 @@ impl<W: Sink + Drop> EscapedSink<W> {
         ensures all { IfNone result.1 (result.0 ≡ length messages.now) }
         ensures some { OnSome result.1 (result.0 < length messages.now) }
         ensures own { IfSome result.1 (λ f. (f ≢ DeviceFault.CountFull) × (f ≢ DeviceFault.Broken)) }
+        ensures none { IfNone result.1 (W.faults self.new.writer ≡ W.faults self.old.writer) }
+        ensures cause { IfSome result.1 (λ f. f ≡ DeviceFault.Write → Rose (W.faults self.old.writer) (W.faults self.new.writer)) }
         ensures wrote { spec.Wrote (W.contents self.old.writer) (W.contents self.new.writer) self.old.batch self.new.batch
             (map arc_value messages.now) result.0 result.1 }
     {

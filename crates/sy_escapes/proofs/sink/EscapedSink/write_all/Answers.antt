@@ -1,4 +1,4 @@
-use Rattle.std.proofs.Common.{rules, ◌≡◌, ◌∙◌, ap, sym, drop, map, arith}
+use Rattle.std.proofs.Common.{rules, refl, ◌≡◌, ◌∙◌, ap, sym, drop, map, arith}
 use Rattle.std.proofs.lemmas.List.{drop-map}
 use Rattle.std.specs.Arc.{arc_value}
 use Rattle.std.specs.Prelude.{None, Some}
@@ -9,6 +9,7 @@ pub loop-taken-init : goal.loop-taken-init
 loop-taken-init g c = record {
   within = omega arith;
   nothing = c.requires;
+  faults = refl;
   run = run_none _ _ _ c.requires;
 }
 
@@ -29,5 +30,6 @@ loop-taken-preserved g c =
     record {
       within = omega (arith, c.write_some-count.ensures.within, c.split_at.ensures.back_len, c.loop-taken.invariant.within);
       nothing = run_empty c.write_some-count.ensures.run is;
+      faults = search rules ∙ c.loop-taken.invariant.faults;
       run = run_then_all _ _ _ _ _ _ _ _ _ _ _ _ c.loop-taken.invariant.run later is c.write_some-count.ensures.run;
     }

@@ -9,6 +9,7 @@ abbrev pub invariant-loop-taken : goal.invariant-loop-taken
 invariant-loop-taken g l = record {
   within : l.taken ≤ length l.messages;
   nothing : rest l.self.batch ≡ [];
+  faults : g.W.Sink.faults l.self.writer ≡ g.W.Sink.faults l.fn.self.writer;
   run : Run (g.W.Sink.contents l.fn.self.writer) (g.W.Sink.contents l.self.writer) l.fn.self.batch l.self.batch (map arc_value l.messages) l.taken None;
 }
 
