@@ -140,7 +140,7 @@ _syc() {
         _syc_offer_options "$command"
     else
         case $command-$places in
-        -0 | help-0) _syc_offer pass check certify verify replay diff survey convert run unread graph explain help ;;
+        -0 | help-0) _syc_offer pass check certify verify replay diff survey convert run unread lines graph explain help ;;
         explain-0) _syc_offer kind ;;
         run-1 | syc-run-1) _syc_offer_relays ;;
         *-0 | verify-1 | replay-1 | diff-1 | survey-*) if [[ $command != pass && $command != explain ]]; then _syc_offer_files; fi ;;

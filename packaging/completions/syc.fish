@@ -81,13 +81,14 @@ for condition in __syc_wants_command '__syc_at 0 help'
     complete -c syc -n $condition -f -a convert -d 'Print a configuration of rsyslogd for a relay'
     complete -c syc -n $condition -f -a run -d 'Check a site, and run one of its relays'
     complete -c syc -n $condition -f -a unread -d 'Say what a file of run --unread has'
+    complete -c syc -n $condition -f -a lines -d 'Print the messages of an archive with escapes'
     complete -c syc -n $condition -f -a graph -d 'Print a site as a graph, for Graphviz'
     complete -c syc -n $condition -f -a explain -d 'Say what a number or a name means'
     complete -c syc -n $condition -f -a help -d 'Print help of a command'
 end
 
 for command in syc syc-run
-    complete -c $command -n '__syc_is pass check certify verify replay diff survey convert run unread graph explain syc-run' -s h -l help -d 'Print help'
+    complete -c $command -n '__syc_is pass check certify verify replay diff survey convert run unread lines graph explain syc-run' -s h -l help -d 'Print help'
     complete -c $command -n '__syc_is check certify verify replay diff run syc-run' -l explain -d 'Explain what is found, or the fault'
     complete -c $command -n '__syc_is check certify verify replay diff survey convert graph run syc-run' -l any-file -d 'Read FIFOs and devices too'
     complete -c $command -n '__syc_is check run syc-run' -l strict -d 'Refuse a site that has warnings too'
@@ -113,5 +114,5 @@ complete -c syc -n '__syc_is graph' -l class -x -a '(__syc_classes)' -d 'Draw wh
 complete -c syc -n '__syc_is unread' -l repair -d 'Write what a repair makes messages'
 complete -c syc -n '__syc_at 0 explain' -f -a kind -d 'A kind of finding'
 complete -c syc -n '__syc_past 0 pass explain' -f
-complete -c syc -n '__syc_past 1 check certify convert graph unread help' -f
+complete -c syc -n '__syc_past 1 check certify convert graph unread lines help' -f
 complete -c syc -n '__syc_past 2 verify replay diff' -f

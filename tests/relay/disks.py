@@ -13,9 +13,9 @@ import termios
 from array import array
 
 from archives import lift
-from failing import BATCH, BATCHES, COUNT, KINDS, SYNCED, TURNS, WRITES, ended, ends, hub, of_kinds, says_that_it_fails
+from failing import BATCH, BATCHES, COUNT, KINDS, SYNC, SYNCED, TURNS, WRITES, ended, ends, hub, of_kinds, says_that_it_fails
 from peers import Sender, message, messages, send_all
-from room import ANY, LeftOut, same, totals, until
+from room import ANY, LeftOut, imtcp, module, omfile, same, test, totals, until
 from rotation import answer, asks_and_hears, refused, reopened
 from writes import answering, grown, limit, needs_strace
 
@@ -217,6 +217,17 @@ def reopen_on_a_disk_that_is_read_only(room, more):
 
 # ---- Pipes and devices
 
+@test
+def synced_archive_that_is_on_no_disk(room):
+    """The host refuses to sync it, and it is no failure."""
+    port = room.port()
+    room.site({"hub": module() + imtcp(port) + omfile("audit", "/dev/null", -1, 0, SYNC)}, f"entry hub {port}", "protect auth.* hub audit")
+    relay = room.start("hub", port)
+    send_all(port, messages(COUNT))
+    relay.stops_with(totals(COUNT, 0, 0, ("audit", COUNT, COUNT, 0, 0)))
+    same("what it said", relay.lines(), [])
+
+
 def unread(reader):
     found = array("i", [0])
     fcntl.ioctl(reader, termios.FIONREAD, found)
@@ -234,7 +245,7 @@ def reads(reader, came, size):
     until("all comes through the pipe", is_there, came=lambda: len(came))
 
 
-@of_kinds("", "_with_a_queue")
+@of_kinds(*KINDS)
 def pipe_whose_reader_goes_away(room, more):
     """A write that waits for room takes a part alone where the reader goes; the next reader has the rest."""
     path, held = room.path("audit.log"), 4096

@@ -13,7 +13,7 @@ fn warning(of: Caution, means: &'static str, change: &'static str) -> Code {
 }
 
 /// What is lawful in a site and unwise.
-pub(crate) fn warning_codes() -> [Code; 18] {
+pub(crate) fn warning_codes() -> [Code; 20] {
     [
         warning(
             Caution::NoEffect,
@@ -54,6 +54,16 @@ pub(crate) fn warning_codes() -> [Code; 18] {
             Caution::SameFile,
             "two archives of one relay are one file, or an archive and a file of unread frames are",
             "give one of them another file",
+        ),
+        warning(
+            Caution::OddFile,
+            "the file of an archive has an empty name, one that begins or ends with a blank, or that of a folder",
+            "give it the name of a file",
+        ),
+        warning(
+            Caution::NotKept,
+            "the file of an archive is in /dev/, where nothing is kept",
+            "give it another file; where that is meant and no protect line names the action, fileType=\"any\"",
         ),
         warning(
             Caution::SameEndpoint,

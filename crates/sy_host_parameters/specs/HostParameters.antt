@@ -1,7 +1,7 @@
--- Parameters of a relay's file that say how its host does its part. The names and meanings of `sync`, `fileCreateMode`, `createDirs`, `maxSessions` and
--- `keepAlive` are those of the rsyslog manual (its pages on omfile and imtcp); values, and all else, are this profile's own. The machine doesn't know
+-- Parameters of a relay's file that say how its host does its part. The names and meanings of `sync`, `fileCreateMode`, `fileOwnerNum`, `fileGroupNum`,
+-- `createDirs`, `maxSessions` and `keepAlive` are those of the rsyslog manual (its pages on omfile and imtcp); values, and all else, are this profile's own. The machine doesn't know
 -- them: a relay's plan is read from the text without them.
-use Rattle.std.specs.Prelude.{◌≡◌, ◌⊎◌, ℕ, ◌+◌, ◌-◌, ◌*◌, ◌==◌, Bool, true, false, ◌&&◌, nat_le, if◌then◌else◌, List, [], ◌∷◌, ◌++◌, flat_map, length, map, slice_range, Option, Some, None, Vec, codes}
+use Rattle.std.specs.Prelude.{◌≡◌, ◌⊎◌, ℕ, ◌+◌, ◌-◌, ◌*◌, ◌==◌, Bool, true, false, ◌&&◌, nat_le, if◌then◌else◌, List, [], ◌∷◌, ◌++◌, flat_map, length, map, slice_index, slice_range, Option, Some, None, Vec, codes}
 use Rattle.std.specs.List.{list_any}
 use Rattle.std.specs.Str.{bytes_eq, str_eq_ignore_ascii_case}
 use Rattle.sy_wire.specs.Numbers.{number_up_to}
@@ -79,8 +79,11 @@ unfoldable pub rows : Holder → List Row
 rows holder.Archive =
     row (codes "sync") parameter.Sync Values.Switch
     ∷ row (codes "fileCreateMode") parameter.FileCreateMode Values.Mode
+    ∷ row (codes "fileOwnerNum") parameter.FileOwnerNum (Values.Number 0 4294967294)
+    ∷ row (codes "fileGroupNum") parameter.FileGroupNum (Values.Number 0 4294967294)
     ∷ row (codes "createDirs") parameter.CreateDirs Values.Switch
     ∷ row (codes "fileType") parameter.FileType Values.Kind
+    ∷ row (codes "escapeControlCharacters") parameter.EscapeControlCharacters Values.Switch
     ∷ []
 rows holder.Receiver =
     row (codes "maxSessions") parameter.MaxSessions (Values.Number 1 1000000)
@@ -152,6 +155,9 @@ number parameter.KeepAlive = 5
 number parameter.KeepAliveTime = 6
 number parameter.KeepAliveInterval = 7
 number parameter.KeepAliveProbes = 8
+number parameter.FileOwnerNum = 9
+number parameter.FileGroupNum = 10
+number parameter.EscapeControlCharacters = 11
 
 abbrev pub is_among : HostParameter → List Given → Bool
 is_among is found = list_any (λ it. number it.parameter == number is) found
@@ -187,7 +193,9 @@ machine_of text script = blanked text 0 (flat_map given_in (items script))
 
 -- the names of the table; those that begin with `keepAlive` are one
 abbrev pub names : List (List ℕ)
-names = codes "sync" ∷ codes "fileCreateMode" ∷ codes "createDirs" ∷ codes "fileType" ∷ codes "maxSessions" ∷ codes "keepAlive" ∷ []
+names =
+    codes "sync" ∷ codes "fileCreateMode" ∷ codes "fileOwnerNum" ∷ codes "fileGroupNum" ∷ codes "createDirs" ∷ codes "fileType"
+    ∷ codes "escapeControlCharacters" ∷ codes "maxSessions" ∷ codes "keepAlive" ∷ []
 
 abbrev pub begins_with : (text name : List ℕ) → Bool
 begins_with text name = str_eq_ignore_ascii_case (slice_range text 0 (length name)) name
@@ -197,11 +205,17 @@ begins_with_one text names = list_any (begins_with text) names
 
 -- a name begins with this letter
 abbrev pub may_begin : ℕ → Bool
-may_begin b = list_any (λ c. b == c) (codes "cCfFkKmMsS")
+may_begin b = list_any (λ c. b == c) (codes "cCeEfFkKmMsS")
+
+-- this is the second letter of a name
+abbrev pub may_follow : ℕ → Bool
+may_follow b = list_any (λ c. b == c) (codes "aAeEiIrRsSyY")
+
+abbrev pub may_begin_so : ℕ → ℕ → Bool
+may_begin_so a b = may_begin a && may_follow b
 
 abbrev pub gives_here : List ℕ → Bool
-gives_here [] = false
-gives_here (b ∷ text) = may_begin b && begins_with_one (b ∷ text) names
+gives_here text = nat_le 2 (length text) && (may_begin_so (slice_index text 0) (slice_index text 1) && begins_with_one text names)
 
 -- one of the names stands in a text
 abbrev pub may_give : List ℕ → Bool

@@ -34,8 +34,11 @@ abbrev pub archive_by : List Given → ArchiveHost
 archive_by found = record {
   is_synced = number_in parameter.Sync 0 found == 1;
   create_mode = number_in parameter.FileCreateMode usual_mode found;
+  owner = value_in parameter.FileOwnerNum found;
+  group = value_in parameter.FileGroupNum found;
   makes_folders = number_in parameter.CreateDirs 0 found == 1;
   may_be_any = number_in parameter.FileType 0 found == 1;
+  escapes = number_in parameter.EscapeControlCharacters 0 found == 1;
 }
 
 abbrev pub one_or_zero : Bool → ℕ

@@ -19,10 +19,15 @@ pub struct ArchiveHost {
     pub is_synced: bool,
     /// The mode of the file, where it is made.
     pub create_mode: u64,
+    /// The numbers of its owner and its group, where it is made; none where that is who runs the relay.
+    pub owner: Option<u64>,
+    pub group: Option<u64>,
     /// Whether folders of the file are made that aren't there.
     pub makes_folders: bool,
     /// Whether what isn't a regular file is written to.
     pub may_be_any: bool,
+    /// Whether each message is one line, with escapes in the place of its control characters.
+    pub escapes: bool,
 }
 
 /// What is done for an input. Times are seconds.
@@ -85,8 +90,11 @@ fn archive_by(found: &[Given]) -> ArchiveHost
     ArchiveHost {
         is_synced: number_in(found, HostParameter::Sync, 0) == 1,
         create_mode: number_in(found, HostParameter::FileCreateMode, USUAL_MODE),
+        owner: value_in(found, HostParameter::FileOwnerNum),
+        group: value_in(found, HostParameter::FileGroupNum),
         makes_folders: number_in(found, HostParameter::CreateDirs, 0) == 1,
         may_be_any: number_in(found, HostParameter::FileType, 0) == 1,
+        escapes: number_in(found, HostParameter::EscapeControlCharacters, 0) == 1,
     }
 }
 

@@ -10,11 +10,14 @@ use sy_script::tree::Script;
 use sy_script::{FaultCode, read_script};
 
 /// The names of the parameters for the host, and with `keepAlive` those that begin so.
-static NAMES: [&[u8]; 6] = [
+static NAMES: [&[u8]; 9] = [
     b"sync",
     b"fileCreateMode",
+    b"fileOwnerNum",
+    b"fileGroupNum",
     b"createDirs",
     b"fileType",
+    b"escapeControlCharacters",
     b"maxSessions",
     b"keepAlive",
 ];
@@ -45,8 +48,25 @@ fn may_begin(byte: u8) -> bool
 {
     matches!(
         byte,
-        b'c' | b'C' | b'f' | b'F' | b'k' | b'K' | b'm' | b'M' | b's' | b'S'
+        b'c' | b'C' | b'e' | b'E' | b'f' | b'F' | b'k' | b'K' | b'm' | b'M' | b's' | b'S'
     )
+}
+
+// Whether that is the second letter of a name.
+fn may_follow(byte: u8) -> bool
+    ensures { result ≡ spec.may_follow byte }
+{
+    matches!(
+        byte,
+        b'a' | b'A' | b'e' | b'E' | b'i' | b'I' | b'r' | b'R' | b's' | b'S' | b'y' | b'Y'
+    )
+}
+
+// Whether a name begins with these letters.
+fn may_begin_so(first: u8, second: u8) -> bool
+    ensures { result ≡ spec.may_begin_so first second }
+{
+    may_begin(first) && may_follow(second)
 }
 
 // Whether a text begins with one of these names, in any case.
@@ -66,10 +86,13 @@ fn begins_with_one(text: &[u8], mut names: &'static [&'static [u8]]) -> bool
 fn gives_here(text: &[u8]) -> bool
     ensures { result ≡ spec.gives_here text.now }
 {
-    match text {
-        [byte, ..] => may_begin(*byte) && begins_with_one(text, &NAMES),
-        [] => false,
+    if text.len() < 2 {
+        return false;
     }
+    if !may_begin_so(text[0], text[1]) {
+        return false;
+    }
+    begins_with_one(text, &NAMES)
 }
 
 // Whether such a name stands in a text.

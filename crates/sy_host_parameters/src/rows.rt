@@ -11,10 +11,16 @@ pub enum HostParameter {
     Sync,
     /// The mode of a file that is made.
     FileCreateMode,
+    /// The number of its owner.
+    FileOwnerNum,
+    /// The number of its group.
+    FileGroupNum,
     /// Whether folders of a file are made that aren't there.
     CreateDirs,
     /// Whether what isn't a regular file is written to.
     FileType,
+    /// Whether control characters of a message are escaped.
+    EscapeControlCharacters,
     /// The most connections at a time.
     MaxSessions,
     /// Whether a silent peer is asked whether it is still there.
@@ -42,6 +48,9 @@ impl HostParameter {
             HostParameter::KeepAliveTime => 6,
             HostParameter::KeepAliveInterval => 7,
             HostParameter::KeepAliveProbes => 8,
+            HostParameter::FileOwnerNum => 9,
+            HostParameter::FileGroupNum => 10,
+            HostParameter::EscapeControlCharacters => 11,
         }
     }
 }
@@ -83,7 +92,10 @@ const MOST: u64 = 32_767;
 
 const SESSIONS: u64 = 1_000_000;
 
-static OF_ARCHIVES: [HostRow; 4] = [
+/// The greatest number of an owner or a group: the one above it stands for none (POSIX, chown).
+const MOST_ID: u64 = 4_294_967_294;
+
+static OF_ARCHIVES: [HostRow; 7] = [
     HostRow {
         name: b"sync",
         parameter: HostParameter::Sync,
@@ -95,6 +107,16 @@ static OF_ARCHIVES: [HostRow; 4] = [
         values: Values::Mode,
     },
     HostRow {
+        name: b"fileOwnerNum",
+        parameter: HostParameter::FileOwnerNum,
+        values: Values::Number(0, MOST_ID),
+    },
+    HostRow {
+        name: b"fileGroupNum",
+        parameter: HostParameter::FileGroupNum,
+        values: Values::Number(0, MOST_ID),
+    },
+    HostRow {
         name: b"createDirs",
         parameter: HostParameter::CreateDirs,
         values: Values::Switch,
@@ -103,6 +125,11 @@ static OF_ARCHIVES: [HostRow; 4] = [
         name: b"fileType",
         parameter: HostParameter::FileType,
         values: Values::Kind,
+    },
+    HostRow {
+        name: b"escapeControlCharacters",
+        parameter: HostParameter::EscapeControlCharacters,
+        values: Values::Switch,
     },
 ];
 

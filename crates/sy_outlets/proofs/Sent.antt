@@ -13,7 +13,8 @@ use Rattle.sy_outlets.specs.contracts.rotation.reopens.Reopens as Reopens
 use Rattle.sy_outlets.specs.contracts.rotation.rotated.Form as Form
 use Rattle.sy_outlets.specs.contracts.rotation.rotated.Open as Open
 use Rattle.sy_outlets.specs.contracts.rotation.rotated.Rotated as Rotated
-use Rattle.sy_outlets.specs.contracts.rotation.rotated.Writer as FileForm
+use Rattle.sy_outlets.specs.contracts.rotation.rotated.Lines as Lines
+use Rattle.sy_outlets.specs.contracts.rotation.rotated.Writer as Writer
 use Rattle.sy_outlets.specs.contracts.unread_file.UnreadFile as UnreadFile
 use Rattle.sy_outlets.specs.contracts.unread_file.Writing as Writing
 use Rattle.sy_log.specs.contracts.log.ActionLog as ActionLog
@@ -41,17 +42,21 @@ noted_sync : IsSync ActionLog.the_row
 noted_sync = search (log_send, log_sync, sendable, crosses) depth 30
 
 file_writer_send : IsSend FileWriter.the_row
-file_writer_send = search (noted_send, sendable, crosses) depth 80 fits 20000
+file_writer_send =
+    recorded_send FileWriter.the_field.row _ _ FileWriter.the_type.to_one (struct_send (shape FileWriter.the_type) (search (noted_send, sendable, crosses) depth 80 fits 20000, (search (noted_send, sendable, crosses) depth 80 fits 20000, (search (noted_send, sendable, crosses) depth 80 fits 20000, (search (noted_send, sendable, crosses) depth 80 fits 20000, (search (noted_send, sendable, crosses) depth 80 fits 20000, tt))))))
 
 frame_file_send : IsSend FrameFile.the_row
 frame_file_send = search (noted_send, sendable, crosses) depth 80 fits 20000
 
-file_form_send : IsSend FileForm.the_row
-file_form_send = search (file_writer_send, frame_file_send, sendable, crosses) depth 80 fits 20000
+lines_send : IsSend Lines.the_row
+lines_send = search (file_writer_send, sendable, crosses) depth 80 fits 20000
+
+writer_send : IsSend (Writer.the_field).row
+writer_send = struct_send (shape Writer.the_type) (search (lines_send, sendable, crosses) depth 80 fits 20000, (search (frame_file_send, sendable, crosses) depth 80 fits 20000, tt))
 
 open_file_send : IsSend Open.the_row
 open_file_send =
-    recorded_send Open.the_field.row _ _ Open.the_type.to_one (struct_send (shape Open.the_type) (search (file_form_send, sendable, crosses) depth 80 fits 20000, (search (file_form_send, sendable, crosses) depth 80 fits 20000, (search (file_form_send, sendable, crosses) depth 80 fits 20000, tt))))
+    recorded_send Open.the_field.row _ _ Open.the_type.to_one (struct_send (shape Open.the_type) (writer_send, (search (sendable, crosses) depth 80 fits 20000, (search (sendable, crosses) depth 80 fits 20000, tt))))
 
 form_send : IsSend Form.the_row
 form_send = search (sendable, crosses) depth 40 fits 8000

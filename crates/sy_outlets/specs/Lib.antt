@@ -1,3 +1,4 @@
 pub mod Ports
 pub mod Left
 pub mod internal
+pub mod FileWriters

@@ -83,9 +83,9 @@ impl Writing {
         if is_new {
             self.reopens.wake();
         }
-        let answer = match &mut open.writer {
-            Writer::Frames(file) => file.append(frames),
-            Writer::Lines(_) => Err(WriteFault),
+        let answer = match &mut open.writer.frames {
+            Some(file) => file.append(frames),
+            None => Err(WriteFault),
         };
         drop(open);
         if self.file.set_written() {

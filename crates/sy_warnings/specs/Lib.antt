@@ -1,4 +1,5 @@
 pub mod Audit
+pub mod ArchiveFiles
 pub mod Following
 pub mod Holding
 pub mod Holders

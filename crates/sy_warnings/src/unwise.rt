@@ -1,14 +1,17 @@
 //! What is lawful in a relay's file and unwise, item by item.
 
+pub mod archives;
+
 use crate::cautions::{
     after_stop, mark_above_size, no_effect, no_post, no_queue, outside_input, same_file,
     uncalled_ruleset, unreached_action, unread_in_archive,
 };
 use crate::holdups::warn_of_holders;
+use crate::unwise::archives::{file_of_action, warn_of_archive};
 use crate::warnings::{Caution, Looked, Warnings};
 use sy_places::relay_file::contents::{Item, What};
 use sy_places::ways::relay_parts::{name_of_list, occurrences_of, queue_for};
-use sy_rules::{Destination, Occurrence, Plan, QueueParameters};
+use sy_rules::{Occurrence, Plan, QueueParameters};
 use sy_script::tree::Param;
 use sy_site::SiteInput;
 
@@ -276,17 +279,6 @@ fn warn_behind_stop(warnings: &mut Warnings, looked: Looked<'_>, item: Item<'_>,
     }
 }
 
-// The file of an archive.
-fn file_of_action(plan: &Plan, action: u32) -> Option<&[u8]> {
-    match plan.actions().get(action as usize) {
-        Some(found) => match &found.destination {
-            Destination::Archive(file) => Some(file.as_slice()),
-            Destination::Forward(_, _) => None,
-        },
-        None => None,
-    }
-}
-
 // The file of an archive, and an earlier archive with the same.
 fn same_as<'a>(looked: Looked<'a>, action: u32) -> Option<(&'a [u8], u32)> {
     let file = file_of_action(looked.plan, action)?;
@@ -336,6 +328,7 @@ pub fn warn_of_item(warnings: &mut Warnings, looked: Looked<'_>, item: Item<'_>)
         }
         What::Action(number) => {
             warn_of_action(warnings, looked, item, number);
+            warn_of_archive(warnings, looked, item, number);
             warn_of_holders(warnings, looked, item, number);
         }
         What::Call(_) => {

@@ -9,6 +9,7 @@ use crate::holders::{Holder, holders_of};
 use crate::tunnels::warn_of_tunnels;
 use crate::unwise::warn_of_item;
 use std::alloc::{AllocError, Global};
+use sy_host_parameters::{RelayHost, host_of};
 use sy_places::relay_file::contents::{Item, items_of};
 use sy_places::relay_file::places::relay_line;
 use sy_places::site_file::texts::{RelayFile, SiteTexts, relay_file};
@@ -42,6 +43,10 @@ pub enum Caution {
     AfterStop,
     /// Two archives of one relay are one file, or an archive and what keeps the unread frames of an input.
     SameFile,
+    /// The file of an archive has no name, or one that nobody looks for, or that of a folder.
+    OddFile,
+    /// The file of an archive stands where nothing is kept.
+    NotKept,
     /// An input can be reached where one of an earlier relay can.
     SameEndpoint,
     /// A forward leads to an input of its own relay, though the site has it lead elsewhere.
@@ -76,6 +81,8 @@ impl Caution {
             Caution::MarkAboveSize => "MarkAboveSize",
             Caution::AfterStop => "AfterStop",
             Caution::SameFile => "SameFile",
+            Caution::OddFile => "OddFile",
+            Caution::NotKept => "NotKept",
             Caution::SameEndpoint => "SameEndpoint",
             Caution::OwnEndpoint => "OwnEndpoint",
             Caution::NoEndpoint => "NoEndpoint",
@@ -106,6 +113,8 @@ pub struct Looked<'a> {
     pub file: &'a str,
     pub text: &'a [u8],
     pub items: &'a [Item<'a>],
+    /// What its host does.
+    pub host: &'a RelayHost,
     pub executed: &'a Executed,
     /// What messages of protected classes may execute that come to one of `protected`.
     pub kept: &'a Executed,
@@ -211,6 +220,7 @@ fn warn_of_script(
     let protected = reached.of_protected.as_slice();
     let kept = kept_of(warnings.alloc, site, relay, plan, protected)?;
     let items = items_of(warnings.alloc, script)?;
+    let host = host_of(warnings.alloc, file.text)?;
     let looked = Looked {
         site,
         relay,
@@ -218,6 +228,7 @@ fn warn_of_script(
         file: file.name,
         text: file.text,
         items: items.as_slice(),
+        host: &host,
         executed: &executed,
         kept: &kept,
         reached: reached.of_any_class.as_slice(),

@@ -12,6 +12,7 @@ mod explain;
 mod folder;
 mod full;
 mod laws;
+mod lines;
 mod prepare;
 mod run;
 mod strict;
@@ -26,6 +27,7 @@ use diff::{diff_of_words, is_diff};
 use explain::{explain, is_explain};
 use folder::enter_folder;
 use full::{draw_in_full, take_full};
+use lines::read_back;
 use prepare::prepare;
 use run::run;
 use std::env;
@@ -61,7 +63,6 @@ use sy_site::Site;
 use sy_survey::folders::HostFolders;
 use sy_survey::tree::Tree;
 use sy_wire::{Buffered, FromRead, FromWrite, Sink, Source};
-use unread::{is_unread, unread};
 use version::{is_version, tell_version};
 
 /// How many bytes of lines are held back until the next read.
@@ -113,8 +114,8 @@ fn main(rt: HostRuntime) -> ExitCode {
     if is_survey(words.as_slice()) || is_convert(words.as_slice()) {
         return ExitCode::from(survey_files(&rt, words.as_slice(), kinds, &mut out));
     }
-    if is_unread(words.as_slice()) {
-        return ExitCode::from(unread(&rt, words.as_slice(), &mut out));
+    if let Some(status) = read_back(&rt, words.as_slice(), &mut out) {
+        return ExitCode::from(status);
     }
     if take_full(&mut words) {
         return ExitCode::from(draw(&rt, words.as_slice(), kinds, &mut out));

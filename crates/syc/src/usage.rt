@@ -165,7 +165,11 @@ fn parser_of<'a>(
     let parser = with_names(alloc, parser, names);
     let parser = with_options(alloc, parser, options);
     let parser = with_values(alloc, parser, word);
-    if is_word(word, "pass") || is_word(word, "unread") || is_word(word, "explain") {
+    if is_word(word, "pass")
+        || is_word(word, "unread")
+        || is_word(word, "lines")
+        || is_word(word, "explain")
+    {
         return parser;
     }
     with_option(alloc, parser, "any-file", ANY_FILE)

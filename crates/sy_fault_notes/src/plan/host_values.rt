@@ -14,7 +14,7 @@ struct HostValue {
 }
 
 /// Those of an action of type `omfile`.
-static OF_ARCHIVES: [HostValue; 4] = [
+static OF_ARCHIVES: [HostValue; 7] = [
     HostValue {
         name: b"sync",
         takes: "on or off",
@@ -26,6 +26,16 @@ static OF_ARCHIVES: [HostValue; 4] = [
         example: "fileCreateMode=\"0640\"",
     },
     HostValue {
+        name: b"fileOwnerNum",
+        takes: "the number of a user, from 0 to 4294967294",
+        example: "fileOwnerNum=\"1000\"",
+    },
+    HostValue {
+        name: b"fileGroupNum",
+        takes: "the number of a group, from 0 to 4294967294",
+        example: "fileGroupNum=\"4\"",
+    },
+    HostValue {
         name: b"createDirs",
         takes: "on or off",
         example: "createDirs=\"on\"",
@@ -34,6 +44,11 @@ static OF_ARCHIVES: [HostValue; 4] = [
         name: b"fileType",
         takes: "any or regular",
         example: "fileType=\"any\"",
+    },
+    HostValue {
+        name: b"escapeControlCharacters",
+        takes: "on or off",
+        example: "escapeControlCharacters=\"on\"",
     },
 ];
 

@@ -1,14 +1,18 @@
 //! The file of an archive.
-ghost use Rattle.std.specs.Prelude.{◌≡◌, ◌≢◌, ◌<◌, length, IfErr, IfNone, IfSome, OnSome};
+ghost use Rattle.std.specs.Prelude.{◌≡◌, ◌≢◌, ◌<◌, length, IfErr, IfNone, IfSome, OnOk, OnSome};
+ghost use Rattle.sy_outlets.specs.internal.Archives.{IsKept};
 
+use crate::devices::file_writer::FileWriter;
 use crate::devices::opening::OpenFault;
 use crate::rotation::opened::{Unopened, open_file};
 use crate::rotation::reopens::Reopens;
-use crate::rotation::rotated::{Form, Open, Rotated, Writer};
+use crate::rotation::rotated::{Form, Lines, Open, Rotated};
 use std::alloc::Global;
 use std::fs::File;
+use std::slice;
 use std::sync::{Arc, MutexGuard};
 use sy_actions::{Device, DeviceFault};
+use sy_escapes::EscapedSink;
 use sy_host_parameters::ArchiveHost;
 use sy_log::log::ActionLog;
 use sy_report::texts::reason::Reason;
@@ -24,19 +28,70 @@ pub struct Archive {
 
 // Has the disk keep what was written, where that is asked for. Where it can't, nothing of it counts as written, and the file is
 // opened anew before any more is: a sync that failed once may answer the next time that all is well.
-fn finish(open: &mut Open) -> Result<(), DeviceFault>
-    ensures { IfErr result (λ f. f ≢ DeviceFault.CountFull) }
+fn finish(opened: &mut Open) -> Result<(), DeviceFault>
+    ensures own { IfErr result (λ f. f ≢ DeviceFault.CountFull) }
+    ensures kept { OnOk result (IsKept opened.new.writer.lines) }
 {
-    let flushed = match &mut open.writer {
-        Writer::Lines(sink) => sink.flush(),
-        Writer::Frames(_) => Ok(()),
+    let flushed = match &mut opened.writer.lines {
+        Some(Lines::Plain(sink)) => sink.flush(),
+        Some(Lines::Escaped(sink)) => sink.flush(),
+        None => Ok(()),
     };
     match flushed {
         Ok(()) => Ok(()),
         Err(_) => {
-            open.is_doubtful = true;
+            opened.is_doubtful = true;
             Err(DeviceFault::Write)
         }
+    }
+}
+
+// Offers a message to a sink of lines with escapes.
+fn offer_escaped(
+    sink: &mut EscapedSink<FileWriter>,
+    message: &Arc<Message>,
+) -> Result<(), DeviceFault>
+    ensures { IfErr result (λ f. f ≢ DeviceFault.CountFull) }
+{
+    match sink.offer_all(slice::from_ref(message)) {
+        (_, None) => Ok(()),
+        (_, Some(fault)) => Err(fault),
+    }
+}
+
+// Writes the line of a message, and has the disk keep it where that is asked for.
+fn write_one(opened: &mut Open, message: &Arc<Message>) -> Result<(), DeviceFault>
+    ensures own { IfErr result (λ f. f ≢ DeviceFault.CountFull) }
+    ensures kept { OnOk result (IsKept opened.new.writer.lines) }
+{
+    match &mut opened.writer.lines {
+        Some(Lines::Plain(sink)) => sink.offer(message)?,
+        Some(Lines::Escaped(sink)) => offer_escaped(sink, message)?,
+        None => return Err(DeviceFault::Write),
+    }
+    finish(opened)
+}
+
+// Writes the lines of messages, up to the first that fails, and has the disk keep them where that is asked for: where it can't,
+// none is taken.
+fn write_all(opened: &mut Open, messages: &[Arc<Message>]) -> (usize, Option<DeviceFault>)
+    requires { 0 < length messages.now }
+    ensures all { IfNone result.1 (result.0 ≡ length messages.now) }
+    ensures some { OnSome result.1 (result.0 < length messages.now) }
+    ensures own { IfSome result.1 (λ f. f ≢ DeviceFault.CountFull) }
+    ensures kept { 0 < result.0 → IsKept opened.new.writer.lines }
+{
+    let answer = match &mut opened.writer.lines {
+        Some(Lines::Plain(sink)) => sink.offer_all(messages),
+        Some(Lines::Escaped(sink)) => sink.offer_all(messages),
+        None => (0, Some(DeviceFault::Write)),
+    };
+    if answer.0 == 0 {
+        return answer;
+    }
+    match finish(opened) {
+        Ok(()) => answer,
+        Err(fault) => (0, Some(fault)),
     }
 }
 
@@ -108,14 +163,7 @@ impl Archive {
         let Some(mut open) = self.enter() else {
             return Err(DeviceFault::Write);
         };
-        let answer = match &mut open.writer {
-            Writer::Lines(sink) => sink.offer(message),
-            Writer::Frames(_) => Err(DeviceFault::Write),
-        };
-        let answer = match answer {
-            Ok(()) => finish(&mut open),
-            Err(fault) => Err(fault),
-        };
+        let answer = write_one(&mut open, message);
         drop(open);
         self.set_written();
         answer
@@ -133,14 +181,7 @@ impl Archive {
         let Some(mut open) = self.enter() else {
             return (0, Some(DeviceFault::Write));
         };
-        let answer = match &mut open.writer {
-            Writer::Lines(sink) => sink.offer_all(messages),
-            Writer::Frames(_) => (0, Some(DeviceFault::Write)),
-        };
-        let answer = match finish(&mut open) {
-            Ok(()) => answer,
-            Err(fault) => (0, Some(fault)),
-        };
+        let answer = write_all(&mut open, messages);
         drop(open);
         self.set_written();
         answer

@@ -1,8 +1,10 @@
 //! What writes to the file of an archive.
-ghost use Rattle.std.specs.Prelude.{None};
+ghost use Rattle.std.specs.Prelude.{◌≡◌, false, true, Some, OnErr, OnOk, [], ◌∷◌};
+ghost use Rattle.sy_calls.specs.Calls.{is_synced, synced, taken};
+ghost use Rattle.sy_outlets.specs.FileWriters.{is_on_disk};
 
 use std::fs::File;
-use std::io::Write;
+use sy_calls::AppendFile;
 use sy_log::log::ActionLog;
 use sy_report::texts::reason::Reason;
 use sy_wire::{Sink, WriteFault};
@@ -10,7 +12,7 @@ use sy_wire::{Sink, WriteFault};
 /// What writes to the file of an archive, and notes why a write fails.
 #[derive(Drop)]
 pub struct FileWriter {
-    file: File,
+    file: AppendFile,
     log: ActionLog,
     faults: u64,
     is_flushed: bool,
@@ -20,9 +22,12 @@ pub struct FileWriter {
 
 impl FileWriter {
     /// A writer to this file, whose flush has the disk keep what was written, where that is asked for.
-    pub fn new(file: File, log: ActionLog, is_synced: bool) -> FileWriter {
+    pub fn new(file: File, log: ActionLog, is_synced: bool) -> FileWriter
+        ensures nothing { taken result.file.noted.calls ≡ [] }
+        ensures syncs { result.is_synced ≡ is_synced }
+    {
         FileWriter {
-            file,
+            file: AppendFile::new(file),
             log,
             faults: 0,
             is_flushed: true,
@@ -31,7 +36,12 @@ impl FileWriter {
     }
 
     // Has the disk keep what was written, where that is asked for.
-    fn sync(&self) -> Result<(), Reason> {
+    fn sync(&mut self) -> Result<(), Reason>
+        ensures bytes { taken self.new.file.noted.calls ≡ taken self.old.file.noted.calls }
+        ensures ok { OnOk result (self.old.is_synced ≡ true → is_synced self.new.file.noted.calls ≡ true) }
+        ensures err { OnErr result (self.new.file.noted.calls ≡ self.old.file.noted.calls) }
+        ensures same { self.new ≡ record self.old { file = self.new.file } }
+    {
         if !self.is_synced {
             return Ok(());
         }
@@ -43,12 +53,12 @@ impl FileWriter {
 }
 
 impl Sink for FileWriter {
-    // what a file holds isn't known
-    ghost contents = { λ _. None };
+    // what its writes took since it was opened
+    ghost contents = { λ s. Some (taken s.file.noted.calls) };
 
     ghost faults = { λ s. s.faults };
 
-    ghost is_flushed = { λ s. s.is_flushed };
+    ghost is_flushed = { λ s. is_on_disk s.is_synced s.is_flushed s.file.noted.calls };
 
     fn write(&mut self, bytes: &[u8]) -> Result<usize, WriteFault> {
         if bytes.is_empty() {

@@ -2,7 +2,8 @@
 
 use std::fs::{self, File, Files, Metadata, OpenOptions};
 use std::io::{self, Error, ErrorKind, Read, Seek, SeekFrom, Write};
-use std::os::unix::fs::{FileTypeExt, MetadataExt, OpenOptionsExt};
+use std::os::fd::AsFd;
+use std::os::unix::fs::{FileTypeExt, MetadataExt, OpenOptionsExt, fchown};
 use sy_host_parameters::ArchiveHost;
 use sy_report::texts::reason::Reason;
 
@@ -82,11 +83,30 @@ pub fn has_lost_name(rt: &HostRuntime, name: &str, node: Node) -> bool {
     }
 }
 
+/// Whether that file has its name still, as the host says.
+pub fn has_name(rt: &HostRuntime, name: &str, node: Node) -> bool {
+    match fs::metadata(rt, name) {
+        Ok(about) => node_of(&about) == node,
+        Err(_) => false,
+    }
+}
+
 /// Whether a pipe has that name, whose opening waits until somebody reads it.
 pub fn is_pipe(rt: &HostRuntime, name: &str) -> bool {
     match fs::metadata(rt, name) {
         Ok(about) => about.file_type().is_fifo(),
         Err(_) => false,
+    }
+}
+
+/// Whether the disk can be asked to keep what is written to a file: of a pipe, and of most devices, the host refuses that.
+pub fn can_sync(file: &File) -> bool {
+    match file.metadata() {
+        Ok(about) if !about.is_file() => match file.sync_data() {
+            Err(error) => error.kind() != ErrorKind::InvalidInput,
+            Ok(()) => true,
+        },
+        _ => true,
     }
 }
 
@@ -171,17 +191,51 @@ fn make_folders(rt: &HostRuntime, name: &str, is_synced: bool) -> io::Result<()>
     Ok(())
 }
 
+// A number of an owner or a group, as the host has it. (Each that a parameter gives is one.)
+fn id_of(given: Option<u64>) -> Option<u32> {
+    u32::try_from(given?).ok()
+}
+
+// Makes a file for appending, which is those owner's and group's; where it can't be, it is removed again.
+fn make_for(rt: &HostRuntime, name: &str, mode: u32, does: ArchiveHost) -> io::Result<File> {
+    let file = OpenOptions::new()
+        .append(true)
+        .create_new(true)
+        .mode(mode)
+        .open(rt, name)?;
+    match fchown(file.as_fd(), id_of(does.owner), id_of(does.group)) {
+        Ok(()) => Ok(file),
+        Err(error) => {
+            let _ = fs::remove_file(rt, name);
+            Err(error)
+        }
+    }
+}
+
+// Opens a file for appending. Where it isn't there it is made.
+fn open_or_make(rt: &HostRuntime, name: &str, does: ArchiveHost) -> io::Result<File> {
+    let mode = u32::try_from(does.create_mode).unwrap_or(PRIVATE);
+    if does.owner.is_some() || does.group.is_some() {
+        return match make_for(rt, name, mode, does) {
+            Err(error) if error.kind() == ErrorKind::AlreadyExists => {
+                OpenOptions::new().append(true).open(rt, name)
+            }
+            made => made,
+        };
+    }
+    OpenOptions::new()
+        .append(true)
+        .create(true)
+        .mode(mode)
+        .open(rt, name)
+}
+
 // Opens a file for appending, with what its host is to do for it.
 fn open_by(rt: &HostRuntime, name: &str, does: ArchiveHost) -> io::Result<File> {
     if does.makes_folders {
         make_folders(rt, name, does.is_synced)?;
     }
-    let mode = u32::try_from(does.create_mode).unwrap_or(PRIVATE);
-    let mut file = OpenOptions::new()
-        .append(true)
-        .create(true)
-        .mode(mode)
-        .open(rt, name)?;
+    let mut file = open_or_make(rt, name, does)?;
     if may_be_torn(rt, name, &file) {
         file.write_all(b"\n")?;
     }

@@ -3,7 +3,9 @@
 use crate::devices::file_writer::FileWriter;
 use crate::devices::frame_file::FrameFile;
 use crate::rotation::frames::open_whole;
-use crate::rotation::opened::{Node, Refusal, has_lost_name, is_pipe, node_of_file, open_file};
+use crate::rotation::opened::{
+    Node, Refusal, can_sync, has_lost_name, has_name, is_pipe, node_of_file, open_file,
+};
 use std::alloc::Global;
 use std::fs::File;
 use std::sync::atomic::{AtomicBool, Ordering};
@@ -11,6 +13,7 @@ use std::sync::{Mutex, MutexGuard};
 use std::thread;
 use std::time::Duration;
 use sy_actions::LineSink;
+use sy_escapes::EscapedSink;
 use sy_host_parameters::ArchiveHost;
 use sy_log::log::ActionLog;
 use sy_report::texts::reason::Reason;
@@ -36,11 +39,18 @@ pub enum Form {
     Frames,
 }
 
-/// What writes lines, or whole frames.
+/// What writes lines, or lines with escapes.
 #[derive(Drop)]
-pub enum Writer {
-    Lines(LineSink<FileWriter>),
-    Frames(FrameFile),
+pub enum Lines {
+    Plain(LineSink<FileWriter>),
+    Escaped(EscapedSink<FileWriter>),
+}
+
+/// What writes lines, or whole frames: one of both.
+#[derive(Drop)]
+pub struct Writer {
+    pub lines: Option<Lines>,
+    pub frames: Option<FrameFile>,
 }
 
 impl Writer {
@@ -48,10 +58,22 @@ impl Writer {
     pub fn new(alloc: Global, form: Form, file: File, log: ActionLog) -> Writer {
         match form {
             Form::Lines(does) => {
-                let writer = FileWriter::new(file, log, does.is_synced);
-                Writer::Lines(LineSink::new(alloc, writer))
+                let is_synced = does.is_synced && can_sync(&file);
+                let writer = FileWriter::new(file, log, is_synced);
+                let lines = if does.escapes {
+                    Lines::Escaped(EscapedSink::new(alloc, writer))
+                } else {
+                    Lines::Plain(LineSink::new(alloc, writer))
+                };
+                Writer {
+                    lines: Some(lines),
+                    frames: None,
+                }
             }
-            Form::Frames => Writer::Frames(FrameFile::new(file, log)),
+            Form::Frames => Writer {
+                lines: None,
+                frames: Some(FrameFile::new(file, log)),
+            },
         }
     }
 }
@@ -179,12 +201,32 @@ impl Rotated {
         Ok((Writer::new(self.alloc, self.form, file, log), node))
     }
 
-    // Opens it anew for requests up to this one, and answers whether how that ended is new. What was open is closed then.
+    // Whether lines go to the file that has its name, and are to: it stays open, with what is left of a line.
+    fn stays(&self, open: &Open, node: Option<Node>) -> bool {
+        match (self.form, node) {
+            (Form::Lines(_), Some(node)) => {
+                !open.is_doubtful && has_name(&self.rt, self.path.as_str(), node)
+            }
+            _ => false,
+        }
+    }
+
+    // Opens it anew for requests up to this one, and answers whether how that ended is new. What was open is closed then, but where
+    // it is that file.
     fn follow(&self, open: &mut Open, asked: u64) -> bool {
         let node = match self.known() {
             Some(known) => known.node,
             None => None,
         };
+        if self.stays(open, node) {
+            open.followed = asked;
+            return self.note(Known {
+                tried: asked,
+                followed: asked,
+                refusal: None,
+                node,
+            });
+        }
         match self.open_anew() {
             Ok((writer, node)) => {
                 open.writer = writer;

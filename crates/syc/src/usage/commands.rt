@@ -143,6 +143,16 @@ const UNREAD_BEHIND: &str = "Exit status:
 Example:
   syc unread --repair unread | nc -N localhost 6514";
 
+const LINES_BEHIND: &str = "Exit status:
+  0  all lines are messages
+  1  some lines aren't, which are told, and the others are printed
+  2  the command line is faulty
+  3  out of memory
+  4  a read or a write failed
+
+Example:
+  syc lines audit.log | nc -N localhost 6514";
+
 const FULL: &str =
     "Draw each relay in full, with the site file's name, the date and the SHA-256 of its files below; else more than 12 relays are drawn as an overview";
 
@@ -167,7 +177,7 @@ Examples:
   syc explain SharedWorker";
 
 /// The commands: the word of each, what it does, its names and options with what they mean, and the end of its help.
-pub static COMMANDS: [(&str, &str, &[(&str, &str)], &[(&str, &str)], &str); 12] = [
+pub static COMMANDS: [(&str, &str, &[(&str, &str)], &[(&str, &str)], &str); 13] = [
     (
         "pass",
         "Read messages in octet-counted frames from standard input and write one line a message",
@@ -252,6 +262,16 @@ pub static COMMANDS: [(&str, &str, &[(&str, &str)], &[(&str, &str)], &str); 12] 
             "Write those of which a repair makes messages to standard output, as frames",
         )],
         UNREAD_BEHIND,
+    ),
+    (
+        "lines",
+        "Print the messages of an archive whose lines have escapes, as frames",
+        &[(
+            "FILE",
+            "An archive of an action with escapeControlCharacters=\"on\"",
+        )],
+        &[],
+        LINES_BEHIND,
     ),
     (
         "graph",
