@@ -1,7 +1,9 @@
 """Whose a file is that an archive makes."""
 
 import contextlib
+import grp
 import os
+import pwd
 import shutil
 import subprocess
 import tempfile
@@ -186,3 +188,95 @@ def archive_by_a_link(room):
     room.holds("audit.log", messages(1))
     same("owner and group of the file", owner_of(room, "elsewhere.log"), (os.geteuid(), os.getegid()))
     relay.stops_with(totals(1, 0, 0, ("audit", 1, 1, 0, 0)))
+
+
+def named(user=None, group=None):
+    return "".join(f' {name}="{it}"' for name, it in (("fileOwner", user), ("fileGroup", group)) if it is not None)
+
+
+def accounts():
+    """A user and a group of this host that aren't root's."""
+    user = next((it for it in pwd.getpwall() if it.pw_uid), None)
+    group = next((it for it in grp.getgrall() if it.gr_gid), None)
+    if user is None or group is None:
+        raise LeftOut("this host has root alone")
+    return user, group
+
+
+@test
+def archive_of_a_named_owner(room):
+    """By the names of the host's own tables. Where a number is given too it holds, as rsyslogd has it."""
+    needs_root()
+    user, group = accounts()
+    own = (os.geteuid(), os.getegid())
+    for more, wanted in ((named(user.pw_name, group.gr_name), (user.pw_uid, group.gr_gid)),
+                         (named(user.pw_name), (user.pw_uid, own[1])),
+                         (named(None, group.gr_name), (own[0], group.gr_gid)),
+                         (named("root", "root"), (0, 0)),
+                         (named(user.pw_name, group.gr_name) + owned(OWNER), (OWNER, group.gr_gid)),
+                         (owned(None, GROUP) + named(user.pw_name, group.gr_name), (user.pw_uid, GROUP)),
+                         (named("nobody-has-this-name") + owned(OWNER, GROUP), (OWNER, GROUP))):
+        relay, port = hub(room, more)
+        send_all(port, messages(1))
+        room.holds("audit.log", messages(1))
+        same(f"owner and group by{more}", owner_of(room), wanted)
+        relay.stops_with(totals(1, 0, 0, ("audit", 1, 1, 0, 0)))
+        os.unlink(room.path("audit.log"))
+
+
+@test
+def named_owners_of_rsyslogd(room):
+    """What rsyslogd makes of the same parameters."""
+    needs_root()
+    daemon = shutil.which("rsyslogd")
+    if not daemon:
+        raise LeftOut("rsyslogd isn't there")
+    user, group = accounts()
+    for more, wanted in ((named(user.pw_name, group.gr_name), (user.pw_uid, group.gr_gid)),
+                         (named(user.pw_name, group.gr_name) + owned(OWNER, GROUP), (OWNER, GROUP)),
+                         (owned(OWNER, GROUP) + named(user.pw_name, group.gr_name), (OWNER, GROUP))):
+        port = room.port()
+        room.write("rsyslog.conf", f'module(load="imtcp")\ninput(type="imtcp" port="{port}")\n'
+                                   f'action(type="omfile" file="{room.path("theirs.log")}"{more})\n')
+        words = [daemon, "-n", "-f", room.path("rsyslog.conf"), "-i", room.path("pid")]
+        with subprocess.Popen(words, stdin=subprocess.DEVNULL, stdout=subprocess.DEVNULL, stderr=subprocess.DEVNULL) as theirs:
+            try:
+                until("rsyslogd listens", lambda: is_listening(port))
+                send_all(port, messages(1))
+                until("its file is there", lambda: os.path.exists(room.path("theirs.log")))
+                same(f"owner and group by{more}", owner_of(room, "theirs.log"), wanted)
+            finally:
+                theirs.terminate()
+        os.unlink(room.path("theirs.log"))
+
+
+@test
+def owners_that_the_host_does_not_have(room):
+    """The relay doesn't start, and makes no file."""
+    port = room.port()
+    name = "nobody-has-this-name"
+    for more, line, why in ((named(name), "user", "a user that doesn't stand in /etc/passwd"), (named("root", name), "group", "a group that doesn't stand in /etc/group"),
+                            (named("0"), "user", "a user that doesn't stand in /etc/passwd")):
+        user_files(room.folder, port, more)
+        done = subprocess.run([room.program, "run", "--explain", "site", "hub"], cwd=room.folder, stdin=subprocess.PIPE, capture_output=True, text=True,
+                              timeout=WAIT, check=False)
+        same(f"status and totals by{more}", (done.returncode, done.stdout), (4, ""))
+        same("its first words", done.stderr.splitlines()[:3],
+             [f"syc: an archive is for a {line} that this host doesn't have", "where: hub.conf:3:1: action audit", f"why: audit.log is for {why}"])
+        same("files", sorted(os.listdir(room.folder)), ["hub.conf", "site"])
+        same("listens", is_listening(port), False)
+
+
+@test
+def names_of_owners(room):
+    """A name has no blank, no control character and no colon. `check` looks into none of the host's tables."""
+    port = room.port()
+    for given in "nobody-has-this-name", "0", "a.b_c-d$", "a@b":
+        user_files(room.folder, port, named(given, given))
+        done = subprocess.run([room.program, "check", "site"], cwd=room.folder, capture_output=True, text=True, check=False)
+        same(f"a check of {given}", (done.returncode, done.stderr), (0, ""))
+    for given in "", "a b", "a:b", " a", "a\t":
+        for more, parameter in (named(given), "fileOwner"), (named(None, given), "fileGroup"):
+            user_files(room.folder, port, more)
+            done = subprocess.run([room.program, "check", "site"], cwd=room.folder, capture_output=True, text=True, check=False)
+            same(f"a check with{more}", (done.returncode, done.stdout, done.stderr), (2, "", f"syc: 42 Unknown of hub: {parameter}\n"))

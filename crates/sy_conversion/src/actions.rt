@@ -10,6 +10,7 @@ use std::alloc::AllocError;
 use sy_fleet::params::{Param, is_given, is_on, module_of, value_of};
 use sy_fleet_text::scan::{byte_at, part};
 use sy_fleet_text::words::same_word;
+use sy_wire::numbers::decimal_up_to;
 
 /// Where messages go.
 #[derive(Clone, Copy)]
@@ -201,7 +202,18 @@ const CARRIED: [&[u8]; 9] = [
 ];
 
 /// The parameters of an omfile for its host, which are carried over where a relay takes their value.
-const OF_HOST: [&[u8]; 3] = [b"createDirs", b"fileCreateMode", b"sync"];
+const OF_HOST: [&[u8]; 7] = [
+    b"createDirs",
+    b"fileCreateMode",
+    b"fileGroup",
+    b"fileGroupNum",
+    b"fileOwner",
+    b"fileOwnerNum",
+    b"sync",
+];
+
+/// The greatest number of an owner or a group that a relay takes.
+const MOST_ID: u64 = 4_294_967_294;
 
 // Whether a value is a mode as a relay takes it: four octal digits, of which the first is 0.
 fn is_mode(value: &[u8]) -> bool {
@@ -210,10 +222,26 @@ fn is_mode(value: &[u8]) -> bool {
         && value.iter().all(|byte| b'0' <= *byte && *byte <= b'7')
 }
 
+// Whether a value is the number of an owner or a group as a relay takes it.
+fn is_id(value: &[u8]) -> bool {
+    decimal_up_to(value, MOST_ID).is_some()
+}
+
+// Whether a value is the name of a user or a group as a relay takes it.
+fn is_account(value: &[u8]) -> bool {
+    !value.is_empty() && value.iter().all(|byte| *byte > 32 && *byte != b':')
+}
+
 // The value of a parameter for the host as a relay takes it.
 fn host_value<'a>(name: &[u8], value: &'a [u8]) -> Option<&'a [u8]> {
     if same_word(b"fileCreateMode", name) {
         return if is_mode(value) { Some(value) } else { None };
+    }
+    if same_word(b"fileGroupNum", name) || same_word(b"fileOwnerNum", name) {
+        return if is_id(value) { Some(value) } else { None };
+    }
+    if same_word(b"fileGroup", name) || same_word(b"fileOwner", name) {
+        return if is_account(value) { Some(value) } else { None };
     }
     if same_word(b"on", value) {
         return Some(b"on");

@@ -1,7 +1,7 @@
--- Parameters of a relay's file that say how its host does its part. The names and meanings of `sync`, `fileCreateMode`, `fileOwnerNum`, `fileGroupNum`,
--- `createDirs`, `maxSessions` and `keepAlive` are those of the rsyslog manual (its pages on omfile and imtcp); values, and all else, are this profile's own. The machine doesn't know
+-- Parameters of a relay's file that say how its host does its part. The names and meanings of `sync`, `fileCreateMode`, `fileOwner`,
+-- `fileGroup`, `fileOwnerNum`, `fileGroupNum`, `createDirs`, `maxSessions` and `keepAlive` are those of the rsyslog manual (its pages on omfile and imtcp); values, and all else, are this profile's own. The machine doesn't know
 -- them: a relay's plan is read from the text without them.
-use Rattle.std.specs.Prelude.{◌≡◌, ◌⊎◌, ℕ, ◌+◌, ◌-◌, ◌*◌, ◌==◌, Bool, true, false, ◌&&◌, nat_le, if◌then◌else◌, List, [], ◌∷◌, ◌++◌, flat_map, length, map, slice_index, slice_range, Option, Some, None, Vec, codes}
+use Rattle.std.specs.Prelude.{◌≡◌, ◌⊎◌, ℕ, ◌+◌, ◌-◌, ◌*◌, ◌==◌, Bool, true, false, ◌&&◌, ◌||◌, not, nat_le, if◌then◌else◌, List, [], ◌∷◌, ◌++◌, flat_map, length, map, slice_index, slice_range, Option, Some, None, Vec, codes}
 use Rattle.std.specs.List.{list_any}
 use Rattle.std.specs.Str.{bytes_eq, str_eq_ignore_ascii_case}
 use Rattle.sy_wire.specs.Numbers.{number_up_to}
@@ -32,6 +32,8 @@ pub data Values : Type 0 where
   Mode : Values
   -- `any` or `regular`
   Kind : Values
+  -- the name of an account
+  Name : Values
 
 -- 1 of the first word, 0 of the second
 abbrev pub either : (first second value : List ℕ) → Option ℕ
@@ -57,12 +59,26 @@ mode_of (z ∷ a ∷ b ∷ c ∷ []) =
     then Some ((a - zero_digit) * 64 + (b - zero_digit) * 8 + (c - zero_digit)) else None
 mode_of _ = None
 
+-- a blank, a control character, or a colon, which ends a field of the tables of accounts (passwd(5), group(5))
+abbrev pub ends_name : ℕ → Bool
+ends_name b = nat_le b 32 || (b == 58)
+
+-- a value can be the name of an account
+abbrev pub is_name : List ℕ → Bool
+is_name [] = false
+is_name (b ∷ bs) = not (list_any ends_name (b ∷ bs))
+
+-- nothing but that it can be a name
+abbrev pub name_of : List ℕ → Option ℕ
+name_of value = if is_name value then Some 0 else None
+
 -- the number that a value says, where a parameter takes it
 abbrev pub value_of : Values → List ℕ → Option ℕ
 value_of Values.Switch value = either (codes "on") (codes "off") value
 value_of (Values.Number lowest highest) value = number_within lowest highest value
 value_of Values.Mode value = mode_of value
 value_of Values.Kind value = either (codes "any") (codes "regular") value
+value_of Values.Name value = name_of value
 
 -- ---- the table
 
@@ -79,6 +95,8 @@ unfoldable pub rows : Holder → List Row
 rows holder.Archive =
     row (codes "sync") parameter.Sync Values.Switch
     ∷ row (codes "fileCreateMode") parameter.FileCreateMode Values.Mode
+    ∷ row (codes "fileOwner") parameter.FileOwner Values.Name
+    ∷ row (codes "fileGroup") parameter.FileGroup Values.Name
     ∷ row (codes "fileOwnerNum") parameter.FileOwnerNum (Values.Number 0 4294967294)
     ∷ row (codes "fileGroupNum") parameter.FileGroupNum (Values.Number 0 4294967294)
     ∷ row (codes "createDirs") parameter.CreateDirs Values.Switch
@@ -158,6 +176,8 @@ number parameter.KeepAliveProbes = 8
 number parameter.FileOwnerNum = 9
 number parameter.FileGroupNum = 10
 number parameter.EscapeControlCharacters = 11
+number parameter.FileOwner = 12
+number parameter.FileGroup = 13
 
 abbrev pub is_among : HostParameter → List Given → Bool
 is_among is found = list_any (λ it. number it.parameter == number is) found
@@ -191,10 +211,10 @@ blanked text at (it ∷ later) =
 abbrev pub machine_of : List ℕ → Script → List ℕ
 machine_of text script = blanked text 0 (flat_map given_in (items script))
 
--- the names of the table; those that begin with `keepAlive` are one
+-- the names of the table; those that begin with `keepAlive` are one, and so are those that begin with `fileOwner` and with `fileGroup`
 abbrev pub names : List (List ℕ)
 names =
-    codes "sync" ∷ codes "fileCreateMode" ∷ codes "fileOwnerNum" ∷ codes "fileGroupNum" ∷ codes "createDirs" ∷ codes "fileType"
+    codes "sync" ∷ codes "fileCreateMode" ∷ codes "fileOwner" ∷ codes "fileGroup" ∷ codes "createDirs" ∷ codes "fileType"
     ∷ codes "escapeControlCharacters" ∷ codes "maxSessions" ∷ codes "keepAlive" ∷ []
 
 abbrev pub begins_with : (text name : List ℕ) → Bool

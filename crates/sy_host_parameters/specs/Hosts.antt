@@ -1,15 +1,21 @@
 -- What the host of a relay is to do, by the relay's file. The usual mode, and what holds where no folder is to be made, are this profile's own, as are the
 -- numbers of connections and the times.
-use Rattle.std.specs.Prelude.{◌≡◌, ◌⊎◌, ℕ, ◌==◌, Bool, true, if◌then◌else◌, List, [], ◌∷◌, flat_map, slice_get, Option, Some, None}
+use Rattle.std.specs.Prelude.{◌≡◌, ◌⊎◌, ℕ, ◌==◌, Bool, true, if◌then◌else◌, List, [], ◌∷◌, codes, flat_map, map, slice_get, Option, Some, None, Vec}
 use Rattle.sy_script.specs.Grammar.{IsScript}
 use Rattle.sy_script.specs.declared.tree.ObjectKind.TheVariants as object
 use Rattle.sy_script.specs.declared.tree.Script.{Script}
 use Rattle.sy_rules.specs.items.Outline.{Item, items}
-use Rattle.sy_host_parameters.specs.HostParameters.{IsNoScript, given_in, number}
+use Rattle.sy_script.specs.declared.tree.Param.{Param}
+use Rattle.sy_rules.specs.parameters.Values.{given}
+use Rattle.sy_host_parameters.specs.HostParameters.{IsNoScript, given_in, holder_of_action, is_name, number}
+use Rattle.sy_host_parameters.specs.declared.rows.Holder.{Holder}
+use Rattle.sy_host_parameters.specs.declared.rows.Holder.TheVariants as holder
+use Rattle.std.specs.declared.alloc.Global.{Global}
 use Rattle.sy_host_parameters.specs.declared.given.Given.{Given}
 use Rattle.sy_host_parameters.specs.declared.rows.HostParameter.{HostParameter}
 use Rattle.sy_host_parameters.specs.declared.rows.HostParameter.TheVariants as parameter
 pub use Rattle.sy_host_parameters.specs.declared.host.ArchiveHost.{ArchiveHost}
+pub use Rattle.sy_host_parameters.specs.declared.names.ArchiveNames.{ArchiveNames}
 pub use Rattle.sy_host_parameters.specs.declared.host.ReceiverHost.{ReceiverHost}
 pub use Rattle.sy_host_parameters.specs.declared.host.RelayHost.{RelayHost}
 
@@ -79,6 +85,51 @@ or_usual_receiver (Some does) = does
 abbrev pub receiver_at : List ReceiverHost → ℕ → ReceiverHost
 receiver_at all input = or_usual_receiver (slice_get all input)
 
+-- whose a file is, by the names of accounts
+pub record Named : Type 0 where
+  pub owner : Option (List ℕ)
+  pub group : Option (List ℕ)
+
+abbrev pub if_name : Option (List ℕ) → Option (List ℕ)
+if_name None = None
+if_name (Some value) = if is_name value then Some value else None
+
+-- the name of an account that these parameters give
+abbrev pub name_in : List ℕ → List Param → Option (List ℕ)
+name_in name params = if_name (given name params)
+
+-- an action that writes no file has none
+abbrev pub named_by : Holder → List Param → Named
+named_by holder.Archive params = record { owner = name_in (codes "fileOwner") params; group = name_in (codes "fileGroup") params }
+named_by _ params = record { owner = None; group = None }
+
+-- the names of the action that an item is
+abbrev pub named_in : Item → List Named
+named_in (Item.Action params) = named_by (holder_of_action params) params ∷ []
+named_in _ = []
+
+abbrev pub bytes_of : Option (Vec ℕ Global) → Option (List ℕ)
+bytes_of None = None
+bytes_of (Some bytes) = Some bytes.items
+
+abbrev pub named_of : ArchiveNames → Named
+named_of names = record { owner = bytes_of names.owner; group = bytes_of names.group }
+
+abbrev pub owner_in : Option ArchiveNames → Option (List ℕ)
+owner_in None = None
+owner_in (Some names) = bytes_of names.owner
+
+abbrev pub group_in : Option ArchiveNames → Option (List ℕ)
+group_in None = None
+group_in (Some names) = bytes_of names.group
+
+-- the name of the owner, or of the group, of the file of the action of this number; none where none is given
+abbrev pub owner_at : List ArchiveNames → ℕ → Option (List ℕ)
+owner_at all action = owner_in (slice_get all action)
+
+abbrev pub group_at : List ArchiveNames → ℕ → Option (List ℕ)
+group_at all action = group_in (slice_get all action)
+
 -- what a module gives for the inputs
 abbrev pub given_in_module : Item → List Given
 given_in_module (Item.Object object.Module params) = given_in (Item.Object object.Module params)
@@ -96,10 +147,11 @@ receivers_in usual _ = []
 -- for each action, and for each input, in the order of the text
 pub record IsHostBy (all : List Item) (host : RelayHost) : Type 0 where
   pub archives : host.archives.items ≡ flat_map archives_in all
+  pub names : map named_of host.names.items ≡ flat_map named_in all
   pub receivers : host.receivers.items ≡ flat_map (receivers_in (usual_of all)) all
 
 -- by the text of a relay's file; nothing where it is no script
 abbrev pub IsHostOf : List ℕ → RelayHost → Type 0
 IsHostOf text host =
-    (IsNoScript text × (host.archives.items ≡ []) × (host.receivers.items ≡ []))
+    (IsNoScript text × (host.archives.items ≡ []) × (host.names.items ≡ []) × (host.receivers.items ≡ []))
     ⊎ ((script : Script) × IsScript text script × IsHostBy (items script) host)

@@ -1,3 +1,4 @@
+pub mod Accounts
 pub mod HostParameters
 pub mod Hosts
 pub mod internal

@@ -29,7 +29,7 @@ fn same_name(one: &[u8], other: &[u8]) -> bool
 }
 
 // The value that these parameters give a name, the first where there are several.
-fn value_given<'p>(params: &'p [Param], name: &[u8]) -> Option<&'p [u8]>
+pub(crate) fn value_given<'p>(params: &'p [Param], name: &[u8]) -> Option<&'p [u8]>
     ensures { option_copied result ≡ value_of_name name.now params.now }
 {
     let mut rest = params;
@@ -70,7 +70,7 @@ fn holder_of_object(kind: ObjectKind, params: &[Param]) -> Holder
 }
 
 // What an action takes of them.
-fn holder_of_action(params: &[Param]) -> Holder
+pub(crate) fn holder_of_action(params: &[Param]) -> Holder
     ensures { result ≡ spec.holder_of_action params.now }
 {
     if gives(params, b"type", b"omfile") {

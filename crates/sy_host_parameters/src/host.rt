@@ -1,12 +1,14 @@
 //! What the host of a relay is to do, by the relay's file.
 
 ghost use Rattle.std.specs.Prelude.{◌≡◌, ◌++◌, IfOk, OnOk, flat_map, map};
+ghost use Rattle.std.specs.Option.{option_copied};
 ghost use Rattle.sy_rules.specs.items.ItemViews.{item as view};
 ghost use Rattle.sy_rules.specs.items.Outline.{items as items_of};
 ghost use Rattle.sy_host_parameters.specs.Hosts as spec;
 
 use crate::given::{Given, given_in};
 use crate::machine::script_of;
+use crate::names::{ArchiveNames, names_of};
 use crate::rows::HostParameter;
 use std::alloc::{AllocError, Global};
 use sy_rules::{Item, outline};
@@ -19,7 +21,7 @@ pub struct ArchiveHost {
     pub is_synced: bool,
     /// The mode of the file, where it is made.
     pub create_mode: u64,
-    /// The numbers of its owner and its group, where it is made; none where that is who runs the relay.
+    /// The numbers of its owner and its group, where it is made; none where they aren't given so.
     pub owner: Option<u64>,
     pub group: Option<u64>,
     /// Whether folders of the file are made that aren't there.
@@ -46,6 +48,7 @@ pub struct ReceiverHost {
 #[derive(Drop)]
 pub struct RelayHost {
     archives: Vec<ArchiveHost>,
+    names: Vec<ArchiveNames>,
     receivers: Vec<ReceiverHost>,
 }
 
@@ -119,6 +122,26 @@ impl RelayHost {
         match self.archives.get(action) {
             Some(does) => *does,
             None => archive_by(&[]),
+        }
+    }
+
+    /// The name of the owner of the file of the action of this number; none where none is given.
+    pub fn owner(&self, action: usize) -> Option<&[u8]>
+        ensures { option_copied result ≡ spec.owner_at self.now.names.items action }
+    {
+        match self.names.get(action) {
+            Some(names) => names.owner(),
+            None => None,
+        }
+    }
+
+    /// The name of its group.
+    pub fn group(&self, action: usize) -> Option<&[u8]>
+        ensures { option_copied result ≡ spec.group_at self.now.names.items action }
+    {
+        match self.names.get(action) {
+            Some(names) => names.group(),
+            None => None,
         }
     }
 
@@ -231,10 +254,12 @@ fn host_by(alloc: Global, script: &Script) -> Result<RelayHost, AllocError>
 {
     let items = outline(alloc, script)?;
     let archives = archives_of(alloc, items.as_slice())?;
+    let names = names_of(alloc, items.as_slice())?;
     let usual = usual_of(alloc, items.as_slice())?;
     let receivers = receivers_of(alloc, usual, items.as_slice())?;
     Ok(RelayHost {
         archives,
+        names,
         receivers,
     })
 }
@@ -247,6 +272,7 @@ pub fn host_of(alloc: Global, text: &[u8]) -> Result<RelayHost, AllocError>
         Some(script) => host_by(alloc, &script),
         None => Ok(RelayHost {
             archives: Vec::new(alloc),
+            names: Vec::new(alloc),
             receivers: Vec::new(alloc),
         }),
     }

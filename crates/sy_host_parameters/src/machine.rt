@@ -9,12 +9,12 @@ use std::alloc::{AllocError, Global};
 use sy_script::tree::Script;
 use sy_script::{FaultCode, read_script};
 
-/// The names of the parameters for the host, and with `keepAlive` those that begin so.
+/// The names of the parameters for the host; `keepAlive`, `fileOwner` and `fileGroup` stand for those that begin so.
 static NAMES: [&[u8]; 9] = [
     b"sync",
     b"fileCreateMode",
-    b"fileOwnerNum",
-    b"fileGroupNum",
+    b"fileOwner",
+    b"fileGroup",
     b"createDirs",
     b"fileType",
     b"escapeControlCharacters",

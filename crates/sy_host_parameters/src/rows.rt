@@ -21,6 +21,10 @@ pub enum HostParameter {
     FileType,
     /// Whether control characters of a message are escaped.
     EscapeControlCharacters,
+    /// The name of its owner.
+    FileOwner,
+    /// The name of its group.
+    FileGroup,
     /// The most connections at a time.
     MaxSessions,
     /// Whether a silent peer is asked whether it is still there.
@@ -51,6 +55,8 @@ impl HostParameter {
             HostParameter::FileOwnerNum => 9,
             HostParameter::FileGroupNum => 10,
             HostParameter::EscapeControlCharacters => 11,
+            HostParameter::FileOwner => 12,
+            HostParameter::FileGroup => 13,
         }
     }
 }
@@ -77,6 +83,8 @@ pub enum Values {
     Mode,
     /// `any` or `regular`
     Kind,
+    /// The name of an account.
+    Name,
 }
 
 /// A parameter, by the name that the manual gives it.
@@ -93,9 +101,9 @@ const MOST: u64 = 32_767;
 const SESSIONS: u64 = 1_000_000;
 
 /// The greatest number of an owner or a group: the one above it stands for none (POSIX, chown).
-const MOST_ID: u64 = 4_294_967_294;
+pub const MOST_ID: u64 = 4_294_967_294;
 
-static OF_ARCHIVES: [HostRow; 7] = [
+static OF_ARCHIVES: [HostRow; 9] = [
     HostRow {
         name: b"sync",
         parameter: HostParameter::Sync,
@@ -105,6 +113,16 @@ static OF_ARCHIVES: [HostRow; 7] = [
         name: b"fileCreateMode",
         parameter: HostParameter::FileCreateMode,
         values: Values::Mode,
+    },
+    HostRow {
+        name: b"fileOwner",
+        parameter: HostParameter::FileOwner,
+        values: Values::Name,
+    },
+    HostRow {
+        name: b"fileGroup",
+        parameter: HostParameter::FileGroup,
+        values: Values::Name,
     },
     HostRow {
         name: b"fileOwnerNum",

@@ -49,7 +49,33 @@ fn mode_of(value: &[u8]) -> Option<u64>
     }
 }
 
-/// The number that a value says, where a parameter that takes such values has it: 1 of `on` and `any`, 0 of `off` and `regular`.
+// Whether a byte can't stand in the name of an account: a blank, a control character, or a colon, which ends a field of the
+// tables of accounts.
+fn ends_name(byte: u8) -> bool
+    ensures { result ≡ spec.ends_name byte }
+{
+    byte <= 32 || byte == b':'
+}
+
+/// Whether a value can be the name of an account.
+pub fn is_name(value: &[u8]) -> bool
+    ensures { result ≡ spec.is_name value.now }
+{
+    match value {
+        [] => false,
+        _ => !value.iter().any(|byte| ends_name(*byte)),
+    }
+}
+
+// Nothing but that it can be a name.
+fn name_of(value: &[u8]) -> Option<u64>
+    ensures { result ≡ spec.name_of value.now }
+{
+    if is_name(value) { Some(0) } else { None }
+}
+
+/// The number that a value says, where a parameter that takes such values has it: 1 of `on` and `any`, 0 of `off` and `regular`,
+/// and of names.
 pub fn value_of(values: Values, value: &[u8]) -> Option<u64>
     ensures { result ≡ spec.value_of (view.values_of values) value.now }
 {
@@ -58,5 +84,6 @@ pub fn value_of(values: Values, value: &[u8]) -> Option<u64>
         Values::Number(lowest, highest) => number_within(value, lowest, highest),
         Values::Mode => mode_of(value),
         Values::Kind => either(value, b"any", b"regular"),
+        Values::Name => name_of(value),
     }
 }

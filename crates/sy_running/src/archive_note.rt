@@ -1,9 +1,11 @@
 //! The note of an archive that can't be opened.
 
+use crate::accounts::{GROUPS, USERS};
 use crate::own_files::Owner;
 use crate::start_notes::{kind_of, lines_of, note_at, push_folder, push_reason};
 use std::alloc::{AllocError, Global};
 use std::io::ErrorKind;
+use sy_outlets::devices::opening::OpenFault;
 use sy_places::relay_file::places::Thing;
 use sy_places::site_file::texts::SiteTexts;
 use sy_report::texts::note::Note;
@@ -12,13 +14,12 @@ use sy_report::texts::reason::Reason;
 use sy_rules::Destination;
 use sy_site::Site;
 
-/// An archive that can't be opened: the number of its action, whether it is no regular file, the reason where the host gave one, and the folder in which
-/// names that aren't absolute are looked for, where that is known.
+/// An archive that can't be opened: the number of its action, the fault, the reason where the host gave one, and the folder in which names that aren't
+/// absolute are looked for, where that is known.
 #[derive(Clone, Copy)]
 pub struct Unopened<'a> {
     pub action: usize,
-    /// Whether what has its name is no regular file, and is to be one.
-    pub is_other: bool,
+    pub fault: OpenFault,
     /// Whose its file is already.
     pub owner: Option<Owner>,
     pub reason: Option<Reason>,
@@ -61,6 +62,52 @@ fn push_owner(note: &mut Note, site: &Site, relay: u32, owner: Owner) {
     note.change.say("the name of another file");
 }
 
+// Says that what has an archive's name is no regular file.
+fn push_other(note: &mut Note) {
+    note.why.say(" is there, and is no regular file");
+    note.change.say("the name of a file, or fileType=\"any\" where a FIFO or a device is meant");
+}
+
+// Accounts of a kind: what they are, the table that has them, and what gives one of them a number.
+struct Accounts {
+    kind: &'static [u8],
+    table: &'static str,
+    change: &'static str,
+}
+
+static OF_USERS: Accounts = Accounts {
+    kind: b"user",
+    table: USERS,
+    change: "a fileOwner that stands there, or the user's number as fileOwnerNum",
+};
+
+static OF_GROUPS: Accounts = Accounts {
+    kind: b"group",
+    table: GROUPS,
+    change: "a fileGroup that stands there, or the group's number as fileGroupNum",
+};
+
+// Says that the host doesn't have the user or the group that a file is for, or can't tell.
+fn push_no_account(
+    alloc: Global,
+    note: &mut Note,
+    reason: Option<Reason>,
+    of: &Accounts,
+) -> Result<(), AllocError> {
+    let table = Part::Text(of.table.as_bytes());
+    note.why
+        .append(&[Part::Text(b" is for a "), Part::Text(of.kind)]);
+    if reason.is_some() {
+        note.why.append(&[Part::Text(b", and "), table, Part::Text(b" can't be read")]);
+        push_reason(alloc, &mut note.why, reason)?;
+    } else {
+        note.why
+            .append(&[Part::Text(b" that doesn't stand in "), table]);
+    }
+    note.change.say(of.change);
+    Ok(())
+}
+
 // Says why a file can't be opened for appending.
 fn push_unopened(
     alloc: Global,
@@ -74,13 +121,22 @@ fn push_unopened(
         push_owner(note, site, relay, owner);
         return Ok(());
     }
-    if why.is_other {
-        note.why.say(" is there, and is no regular file");
-        note.change.say(
-            "the name of a file, or fileType=\"any\" where a FIFO or a device is meant",
-        );
-        return Ok(());
+    match why.fault {
+        OpenFault::NotRegular => push_other(note),
+        OpenFault::NoUser => push_no_account(alloc, note, why.reason, &OF_USERS)?,
+        OpenFault::NoGroup => push_no_account(alloc, note, why.reason, &OF_GROUPS)?,
+        OpenFault::Write | OpenFault::NoMemory => push_refused(alloc, note, name, why)?,
     }
+    Ok(())
+}
+
+// Says why the host doesn't open a file.
+fn push_refused(
+    alloc: Global,
+    note: &mut Note,
+    name: &[u8],
+    why: Unopened<'_>,
+) -> Result<(), AllocError> {
     match kind_of(why.reason) {
         ErrorKind::NotFound => push_no_folder(note, name, why.folder),
         ErrorKind::NotADirectory => {

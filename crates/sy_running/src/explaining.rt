@@ -47,6 +47,16 @@ impl NoDevice {
         }
     }
 
+    /// The file of this action is for a user or a group that the host doesn't have, or can't tell.
+    pub fn without_account(action: usize, fault: OpenFault, reason: Option<Reason>) -> NoDevice {
+        NoDevice {
+            action,
+            fault,
+            owner: None,
+            reason,
+        }
+    }
+
     /// The file of this action is somebody's already.
     pub fn owned(action: usize, owner: Owner) -> NoDevice {
         NoDevice {
@@ -153,7 +163,7 @@ fn unopened(
     let folder = files.folder();
     let why = Unopened {
         action: why.action,
-        is_other: matches!(why.fault, OpenFault::NotRegular),
+        fault: why.fault,
         owner: why.owner,
         reason: why.reason,
         folder: match &folder {

@@ -1,6 +1,7 @@
 //! What the command that runs a relay is given, and what it needs before its host has it.
 #![tactic(auto)]
 
+mod accounts;
 mod archive_note;
 pub mod endpoints;
 pub mod explaining;

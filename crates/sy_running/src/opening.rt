@@ -1,6 +1,7 @@
 //! What a relay notes to and writes to, made as it starts.
 ghost use Rattle.std.specs.Prelude.{◌≡◌, ◌<◌, IfOk, length};
 
+use crate::accounts::with_accounts;
 use crate::explaining::{NoDevice, explain_no_device};
 use crate::own_files::OwnFiles;
 use crate::unread_file::{Noting, UnreadWanted, unread_files};
@@ -53,6 +54,20 @@ fn no_devices<E: Sink>(errors: &mut E, fault: OpenFault) -> u8 {
         OpenFault::Write => stop::write_failed(errors),
         OpenFault::NotRegular => {
             report_texts(errors, &[b"syc: an archive is no regular file\n"]);
+            4
+        }
+        OpenFault::NoUser => {
+            report_texts(
+                errors,
+                &[b"syc: an archive is for a user that this host doesn't have\n"],
+            );
+            4
+        }
+        OpenFault::NoGroup => {
+            report_texts(
+                errors,
+                &[b"syc: an archive is for a group that this host doesn't have\n"],
+            );
             4
         }
         OpenFault::NoMemory => stop::out_of_memory(errors),
@@ -165,7 +180,7 @@ fn devices_of(
     };
     for outlet in outlets {
         let action = devices.len();
-        let outlet = (*outlet, wanted.does.archive(action));
+        let outlet = (*outlet, with_accounts(host, wanted.does, action)?);
         let device = own_device(host, alloc, outlet, &mut files, signals, log, action)?;
         let Ok(()) = devices.push(device) else {
             return Err(NoDevice::without_memory(action));

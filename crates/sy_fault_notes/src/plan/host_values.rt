@@ -14,7 +14,7 @@ struct HostValue {
 }
 
 /// Those of an action of type `omfile`.
-static OF_ARCHIVES: [HostValue; 7] = [
+static OF_ARCHIVES: [HostValue; 9] = [
     HostValue {
         name: b"sync",
         takes: "on or off",
@@ -24,6 +24,16 @@ static OF_ARCHIVES: [HostValue; 7] = [
         name: b"fileCreateMode",
         takes: "four octal digits, of which the first is 0",
         example: "fileCreateMode=\"0640\"",
+    },
+    HostValue {
+        name: b"fileOwner",
+        takes: "the name of a user",
+        example: "fileOwner=\"syslog\"",
+    },
+    HostValue {
+        name: b"fileGroup",
+        takes: "the name of a group",
+        example: "fileGroup=\"adm\"",
     },
     HostValue {
         name: b"fileOwnerNum",

@@ -68,7 +68,7 @@ fn words_on(lost: Lost) -> &'static str {
         Lost::Sync =>
             "without it a line is given to the kernel and not synced, so that a crash of the host may lose the last ones: sync=\"on\" of an action of type omfile has lines on the disk before they count as written",
         Lost::Modes =>
-            "without it files belong to the user that the relay runs as: User= and Group= of its service set these, and fileOwnerNum, fileGroupNum and fileCreateMode of an action of type omfile set them of a file that is made",
+            "without it files belong to the user that the relay runs as: User= and Group= of its service set these, and fileOwner, fileGroup and fileCreateMode of an action of type omfile set them of a file that is made",
         Lost::FileInput =>
             "without it the lines of that file don't come here: imfile of an rsyslogd on that host reads it, and omfwd sends each as RFC 5424 in octet-counted frames over TCP",
         Lost::HostInput =>

@@ -11,6 +11,7 @@ values_of values.Switch = table.Values.Switch
 values_of (values.Number lowest highest) = table.Values.Number lowest highest
 values_of values.Mode = table.Values.Mode
 values_of values.Kind = table.Values.Kind
+values_of values.Name = table.Values.Name
 
 abbrev pub row_of : HostRow → table.Row
 row_of r = table.row r.name.now r.parameter (values_of r.values)

@@ -39,6 +39,9 @@ pub enum OpenFault {
     Write,
     /// What has its name is no regular file, and is to be one.
     NotRegular,
+    /// Its owner, or its group, is none of this host.
+    NoUser,
+    NoGroup,
     NoMemory,
 }
 
