@@ -1,6 +1,6 @@
 -- The tables of accounts, passwd(5) and group(5): each line is an account, and a colon ends a field. The first field is the account's name, the third
 -- its number.
-use Rattle.std.specs.Prelude.{ℕ, ◌==◌, Bool, true, false, List, [], ◌∷◌, slice_get, Option, None, Some}
+use Rattle.std.specs.Prelude.{ℕ, ◌==◌, Bool, List, slice_get, Option, None, Some}
 use Rattle.std.specs.List.{find, slice_split}
 use Rattle.sy_wire.specs.Numbers.{number_up_to}
 use Rattle.sy_script.specs.Bytes.{line_feed}

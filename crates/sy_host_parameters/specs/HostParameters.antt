@@ -65,8 +65,7 @@ ends_name b = nat_le b 32 || (b == 58)
 
 -- a value can be the name of an account
 abbrev pub is_name : List ℕ → Bool
-is_name [] = false
-is_name (b ∷ bs) = not (list_any ends_name (b ∷ bs))
+is_name value = nat_le 1 (length value) && not (list_any ends_name value)
 
 -- nothing but that it can be a name
 abbrev pub name_of : List ℕ → Option ℕ

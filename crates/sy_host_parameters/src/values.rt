@@ -1,6 +1,7 @@
 //! What the value of a parameter for the host says.
 
 ghost use Rattle.std.specs.Prelude.{◌≡◌};
+ghost use Rattle.std.specs.List.{list_any};
 ghost use Rattle.sy_host_parameters.specs.HostParameters as spec;
 ghost use Rattle.sy_host_parameters.specs.internal.Views as view;
 
@@ -57,14 +58,21 @@ fn ends_name(byte: u8) -> bool
     byte <= 32 || byte == b':'
 }
 
+// Whether a value has a byte that can't stand in one.
+fn has_end(value: &[u8]) -> bool
+    ensures { result ≡ list_any spec.ends_name value.now }
+{
+    value.iter().any(|byte| ends_name(*byte))
+}
+
 /// Whether a value can be the name of an account.
 pub fn is_name(value: &[u8]) -> bool
     ensures { result ≡ spec.is_name value.now }
 {
-    match value {
-        [] => false,
-        _ => !value.iter().any(|byte| ends_name(*byte)),
+    if value.len() < 1 {
+        return false;
     }
+    !has_end(value)
 }
 
 // Nothing but that it can be a name.
