@@ -1,7 +1,7 @@
 //! What a relay notes to and writes to, made as it starts.
 ghost use Rattle.std.specs.Prelude.{◌≡◌, ◌<◌, IfOk, length};
 
-use crate::accounts::with_accounts;
+use crate::accounts::with_owners;
 use crate::explaining::{NoDevice, explain_no_device};
 use crate::own_files::OwnFiles;
 use crate::unread_file::{Noting, UnreadWanted, unread_files};
@@ -180,7 +180,7 @@ fn devices_of(
     };
     for outlet in outlets {
         let action = devices.len();
-        let outlet = (*outlet, with_accounts(host, wanted.does, action)?);
+        let outlet = (*outlet, with_owners(host, wanted.does, action)?);
         let device = own_device(host, alloc, outlet, &mut files, signals, log, action)?;
         let Ok(()) = devices.push(device) else {
             return Err(NoDevice::without_memory(action));
