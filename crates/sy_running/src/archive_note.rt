@@ -4,6 +4,7 @@ use crate::own_files::Owner;
 use crate::start_notes::{kind_of, lines_of, note_at, push_folder, push_reason};
 use std::alloc::{AllocError, Global};
 use std::io::ErrorKind;
+use sy_outlets::devices::opening::OpenFault;
 use sy_places::relay_file::places::Thing;
 use sy_places::site_file::texts::SiteTexts;
 use sy_report::texts::note::Note;
@@ -12,13 +13,12 @@ use sy_report::texts::reason::Reason;
 use sy_rules::Destination;
 use sy_site::Site;
 
-/// An archive that can't be opened: the number of its action, whether it is no regular file, the reason where the host gave one, and the folder in which
+/// An archive that can't be opened: the number of its action, why, the reason where the host gave one, and the folder in which
 /// names that aren't absolute are looked for, where that is known.
 #[derive(Clone, Copy)]
 pub struct Unopened<'a> {
     pub action: usize,
-    /// Whether what has its name is no regular file, and is to be one.
-    pub is_other: bool,
+    pub fault: OpenFault,
     /// Whose its file is already.
     pub owner: Option<Owner>,
     pub reason: Option<Reason>,
@@ -61,26 +61,29 @@ fn push_owner(note: &mut Note, site: &Site, relay: u32, owner: Owner) {
     note.change.say("the name of another file");
 }
 
-// Says why a file can't be opened for appending.
-fn push_unopened(
+// Says that it is no regular file.
+fn push_not_regular(note: &mut Note) {
+    note.why.say(" is there, and is no regular file");
+    note.change.say(
+        "the name of a file, or fileType=\"any\" where a FIFO or a device is meant",
+    );
+}
+
+// Says that another process writes to it.
+fn push_locked(note: &mut Note, name: &[u8], folder: Option<&str>) {
+    note.why.say(": another process writes to it");
+    push_folder(&mut note.why, name, folder);
+    note.change
+        .say("the name of another file, or stop that process, which fuser names");
+}
+
+// Says why the host doesn't open a file for appending.
+fn push_of_host(
     alloc: Global,
     note: &mut Note,
-    (site, relay): (&Site, u32),
     name: &[u8],
     why: Unopened<'_>,
 ) -> Result<(), AllocError> {
-    note.why.append(&[Part::Text(name)]);
-    if let Some(owner) = why.owner {
-        push_owner(note, site, relay, owner);
-        return Ok(());
-    }
-    if why.is_other {
-        note.why.say(" is there, and is no regular file");
-        note.change.say(
-            "the name of a file, or fileType=\"any\" where a FIFO or a device is meant",
-        );
-        return Ok(());
-    }
     match kind_of(why.reason) {
         ErrorKind::NotFound => push_no_folder(note, name, why.folder),
         ErrorKind::NotADirectory => {
@@ -108,6 +111,24 @@ fn push_unopened(
             push_reason(alloc, &mut note.why, why.reason)?;
             note.change.say("another file, or another disk");
         }
+    }
+    Ok(())
+}
+
+// Says why a file isn't opened for appending.
+fn push_unopened(
+    alloc: Global,
+    note: &mut Note,
+    (site, relay): (&Site, u32),
+    name: &[u8],
+    why: Unopened<'_>,
+) -> Result<(), AllocError> {
+    note.why.append(&[Part::Text(name)]);
+    match (why.owner, why.fault) {
+        (Some(owner), _) => push_owner(note, site, relay, owner),
+        (None, OpenFault::NotRegular) => push_not_regular(note),
+        (None, OpenFault::Locked) => push_locked(note, name, why.folder),
+        (None, _) => push_of_host(alloc, note, name, why)?,
     }
     Ok(())
 }

@@ -153,7 +153,7 @@ fn unopened(
     let folder = files.folder();
     let why = Unopened {
         action: why.action,
-        is_other: matches!(why.fault, OpenFault::NotRegular),
+        fault: why.fault,
         owner: why.owner,
         reason: why.reason,
         folder: match &folder {

@@ -55,6 +55,10 @@ fn no_devices<E: Sink>(errors: &mut E, fault: OpenFault) -> u8 {
             report_texts(errors, &[b"syc: an archive is no regular file\n"]);
             4
         }
+        OpenFault::Locked => {
+            report_texts(errors, &[b"syc: another process writes to an archive\n"]);
+            4
+        }
         OpenFault::NoMemory => stop::out_of_memory(errors),
     }
 }

@@ -126,6 +126,7 @@ impl Archive {
         let file = match open_file(&rt, name.as_str(), does) {
             Ok(file) => file,
             Err(Unopened::NotRegular) => return Err(OpenFault::NotRegular),
+            Err(Unopened::Locked) => return Err(OpenFault::Locked),
             Err(Unopened::Host(error)) => {
                 log.because(Reason::of(&error));
                 return Err(OpenFault::Write);

@@ -39,6 +39,8 @@ pub enum OpenFault {
     Write,
     /// What has its name is no regular file, and is to be one.
     NotRegular,
+    /// Another process writes to it.
+    Locked,
     NoMemory,
 }
 

@@ -14,6 +14,7 @@ fn say_refusal(alloc: Global, words: &mut Words, refusal: Refusal) -> Result<(),
         Refusal::NoName => words.say("its name isn't UTF-8"),
         Refusal::Twice => words.say("it is an unread file by another name too"),
         Refusal::NotRegular => words.say("it is no regular file"),
+        Refusal::Locked => words.say("another process writes to it"),
         Refusal::Host(reason) => {
             let mut text = Vec::new(alloc);
             reason.append(alloc, &mut text)?;

@@ -54,6 +54,14 @@ pub struct Writer {
 }
 
 impl Writer {
+    // To none.
+    fn closed() -> Writer {
+        Writer {
+            lines: None,
+            frames: None,
+        }
+    }
+
     /// To this file.
     pub fn new(alloc: Global, form: Form, file: File, log: ActionLog) -> Writer {
         match form {
@@ -226,6 +234,10 @@ impl Rotated {
                 refusal: None,
                 node,
             });
+        }
+        if open.is_doubtful {
+            // (it may be opened anew by the same name, and its lock has to be let go before)
+            open.writer = Writer::closed();
         }
         match self.open_anew() {
             Ok((writer, node)) => {
