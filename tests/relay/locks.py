@@ -5,7 +5,7 @@ import fcntl
 import os
 
 from archives import Pipe
-from failing import SYNC
+from failing import SYNC, closed
 from failing import hub as failing_hub
 from peers import message, messages, send_all
 from room import ANY, Relay, imtcp, module, omfile, same, test, totals, until
@@ -242,3 +242,28 @@ def lock_after_a_failed_sync(room):
     room.holds("audit.log", [*messages(2), message(1)])
     same("whether it is locked", is_locked(room, "audit.log"), True)
     relay.stops_with(done("audit", 2))
+
+
+@test
+def file_that_another_process_takes_after_a_failed_sync(room):
+    """While no file is open none is locked, and no line is lost."""
+    needs_strace(room)
+    path = "logs/audit.log"
+    for it in "logs", "theirs":
+        os.mkdir(room.path(it))
+    relay, port = failing_hub(room, SYNC, path=path, under=answering(room, "fdatasync", "EIO", 2))
+    send_all(port, messages(1))
+    room.holds(path, messages(1))
+    os.rename(room.path("logs"), room.path("old"))
+    send_all(port, messages(1, 1))
+    relay.says(closed("no such folder", path=path))
+    same("whether the old file is locked", is_locked(room, "old/audit.log"), False)
+    with locked(room, "theirs/audit.log"):
+        os.rename(room.path("theirs"), room.path("logs"))
+        relay.says(closed(OTHERS, path=path))
+        send_all(port, messages(1, 2))
+        same("the file", room.read(path), b"")
+    room.holds(path, messages(2, 1))
+    same("whether it is locked", is_locked(room, path), True)
+    relay.says(reopened(path))
+    relay.stops_with(done("audit", 3))

@@ -19,7 +19,8 @@ use sy_report::texts::reason::Reason;
 use sy_wire::Message;
 
 /// The file of an archive, to whose end lines are written, and which is opened anew where this was asked for since its
-/// last offer. Where it can't be opened, lines go on to the one that is open, and the next offer tries again.
+/// last offer. Where it can't be opened, lines go on to the one that is open, or to none after a failed sync, and the next
+/// offer tries again.
 #[derive(Drop)]
 pub struct Archive {
     file: Arc<Rotated>,
