@@ -6,17 +6,16 @@ Lines are really cut: by a limit of the file's size, by a small disk, and by a p
 import ctypes
 import fcntl
 import os
-import re
 import signal
 import subprocess
 import termios
 from array import array
 
 from archives import lift
-from failing import BATCH, BATCHES, COUNT, KINDS, SYNC, SYNCED, TURNS, WRITES, ended, ends, hub, of_kinds, says_that_it_fails
+from failing import BATCH, BATCHES, COUNT, KINDS, SYNC, SYNCED, TURNS, WRITES, closed, ended, ends, hub, of_kinds, says_that_it_fails
 from peers import Sender, message, messages, send_all
 from room import ANY, LeftOut, imtcp, module, omfile, same, test, totals, until
-from rotation import answer, asks_and_hears, refused, reopened
+from rotation import answer, asks, asks_and_hears, has_open, refused, reopened
 from writes import answering, grown, limit, needs_strace
 
 OWN_MOUNTS = 0x20000  # of unshare
@@ -71,16 +70,10 @@ def batches_cut_by_a_limit(room, more):
     same("the archive", room.read("audit.log")[len(BEFORE):], b"".join(it + b"\n" for it in texts))
 
 
-def refused_once(relay, path, reason):
-    """Waits until it was told that the archive can't be opened anew, and answers that line. (How it ends isn't looked at.)"""
-    line = re.compile(re.escape(f"syc: action audit can't reopen {path}: {reason}; ") + ".*")
-    return until("the refusal is told", lambda: [it for it in relay.lines() if line.fullmatch(it)], came=relay.errors)
-
-
-def opened_again(relay, path):
-    """Waits until it was told that lines go to the archive again, and answers that line."""
-    lines = reopened(path), f"syc: action audit writes to {path} again"
-    return until("its end is told", lambda: [it for it in relay.lines() if it in lines], came=relay.errors)
+def told(relay, line):
+    """Waits for a line, and answers it as a list."""
+    relay.says(line)
+    return [line]
 
 
 @of_kinds(*KINDS)
@@ -102,22 +95,26 @@ def senders_that_wait_while_there_is_no_room(room, more):
 
 @of_kinds(*SYNCED)
 def torn_line_whose_sync_fails(room, more):
-    """The file is opened anew, which ends what is torn: so its line is there again, whole."""
+    """Lines before it are whole, so a sync follows. The file is opened anew, which ends what is torn: so its line is there again,
+    whole, and so are those before."""
     needs_strace(room)
     room.write("audit.log", BEFORE)
-    relay, port = hub(room, more, under=answering(room, "fdatasync", "EIO", 1, "audit.log"), limits=ignores)
-    limit(relay, len(BEFORE) + PART)
-    send_all(port, messages(1, 10))
-    says_that_it_fails(relay, WRITES["EIO"])
-    send_all(port, messages(BATCH, 11))
-    # (nor is there room for that line feed)
-    others = refused_once(relay, "audit.log", WRITES["EFBIG"])
-    same("the archive", room.read("audit.log"), BEFORE + message(10)[:PART])
+    relay, port = hub(room, more, under=answering(room, "fdatasync", "EIO", 2, "audit.log"), limits=ignores)
+    texts = messages(1 + BATCH, 10)
+    limit(relay, len(BEFORE))
+    send_all(port, texts[:1])
+    says_that_it_fails(relay, WRITES["EFBIG"])
+    send_all(port, texts[1:])
+    # (within the third line of the batch that comes after the first message)
+    limit(relay, len(BEFORE) + 3 * LINE + PART)
+    # (nor is there room for the line feed that ends it)
+    others = told(relay, closed(WRITES["EFBIG"]))
+    same("the archive", room.read("audit.log"), BEFORE + b"".join(it + b"\n" for it in texts[:3]) + texts[3][:PART])
     lift(relay)
-    wanted = [message(10)[:PART], *messages(1 + BATCH, 10)]
+    wanted = [*texts[:3], texts[3][:PART], *texts[1:]]
     grown(room, len(BEFORE) + sum(len(it) + 1 for it in wanted))
-    ends(relay, 1 + BATCH, WRITES["EIO"], others=others + opened_again(relay, "audit.log"))
-    same("the archive", room.lines("audit.log")[1:], wanted)
+    ends(relay, len(texts), WRITES["EFBIG"], others=others + told(relay, reopened()))
+    same("the archive then", room.lines("audit.log")[1:], wanted)
 
 
 # ---- Disks
@@ -186,12 +183,12 @@ def disk_that_is_read_only_after_a_failed_sync(room, more):
     cover(room)
     send_all(port, messages(1, 1))
     says_that_it_fails(relay, WRITES["EIO"])
-    others = refused_once(relay, path, WRITES["EROFS"])
+    others = told(relay, closed(WRITES["EROFS"], path=path))
     send_all(port, messages(3, 2))
     same("the archive", room.lines(path), messages(2))
     uncover(room)
     room.holds(path, [*messages(2), *messages(4, 1)])
-    ends(relay, COUNT, WRITES["EIO"], others=others + opened_again(relay, path))
+    ends(relay, COUNT, WRITES["EIO"], others=others + told(relay, reopened(path)))
 
 
 @of_kinds(*KINDS)
@@ -213,6 +210,59 @@ def reopen_on_a_disk_that_is_read_only(room, more):
     same("the old archive", room.lines(old), messages(3))
     relay.stops_with(totals(COUNT, 0, 0, ("audit", COUNT, COUNT, 0, 0)))
     same("what it said", relay.lines(), [refused(WRITES["EROFS"], path=path), answer(0), reopened(path)])
+
+
+# ---- Files that can't be opened anew after a failed sync
+
+@of_kinds(*SYNCED)
+def folder_that_is_gone_after_a_failed_sync(room, more):
+    """No file is open then, and no line is lost: the file of its name has them once it can be made."""
+    needs_strace(room)
+    path, old = "logs/audit.log", "old/audit.log"
+    os.mkdir(room.path("logs"))
+    relay, port = hub(room, more, path=path, under=answering(room, "fdatasync", "EIO", 2))
+    send_all(port, messages(1))
+    room.holds(path, messages(1))
+    os.rename(room.path("logs"), room.path("old"))
+    send_all(port, messages(1, 1))
+    says_that_it_fails(relay, WRITES["EIO"])
+    line = closed("no such folder", path=path)
+    relay.says(line)
+    send_all(port, messages(3, 2))
+    # (each request that fails says so)
+    asks(relay)
+    relay.says(answer(0))
+    relay.says(line, 2)
+    same("the old archive", room.lines(old), messages(2))
+    same("whether it is open", has_open(relay, room.path(old)), False)
+    os.mkdir(room.path("logs"))
+    room.holds(path, messages(4, 1))
+    relay.says(reopened(path))
+    ends(relay, COUNT, WRITES["EIO"], others=[line, line, answer(0), reopened(path)])
+    same("the old archive then", room.lines(old), messages(2))
+
+
+@of_kinds(*SYNCED)
+def sync_that_fails_after_a_refused_reopen(room, more):
+    """Lines go on to the old file until its sync fails, and then to none."""
+    needs_strace(room)
+    relay, port = hub(room, more, under=answering(room, "fdatasync", "EIO", 3))
+    send_all(port, messages(1))
+    room.holds("audit.log", messages(1))
+    os.rename(room.path("audit.log"), room.path("audit.old"))
+    os.mkdir(room.path("audit.log"))
+    asks_and_hears(relay, refused("is a directory"), answer(0))
+    for number in 1, 2:
+        send_all(port, messages(1, number))
+        room.holds("audit.old", messages(number + 1))
+    says_that_it_fails(relay, WRITES["EIO"])
+    relay.says(closed("is a directory"))
+    send_all(port, messages(2, 3))
+    os.rmdir(room.path("audit.log"))
+    room.holds("audit.log", messages(3, 2))
+    relay.says(reopened())
+    ends(relay, COUNT, WRITES["EIO"], others=[refused("is a directory"), answer(0), closed("is a directory"), reopened()])
+    same("the old archive", room.lines("audit.old"), messages(3))
 
 
 # ---- Pipes and devices

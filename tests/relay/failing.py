@@ -47,6 +47,11 @@ def says_that_it_fails(relay, reason, times=1):
     relay.says(f"syc: action audit fails: {reason}", times)
 
 
+def closed(reason, path="audit.log"):
+    """The line about an archive that can't be opened anew after a failed sync."""
+    return f"syc: action audit can't reopen {path}: {reason}; no line is written until it can be"
+
+
 def ended(relay):
     """How often it was told that the archive works again."""
     return len(re.findall(r"(?m)^syc: action audit works after \d+ s$", relay.errors()))

@@ -6,9 +6,11 @@ import time
 
 from archives import lift, limited
 from control import asked
+from failing import hub as failing_hub
 from marks import INFO, held, stuck
 from peers import Receiver, Sender, frame, message, messages, send_all
 from room import FAULT, Failure, imtcp, main_queue, module, omfile, omfwd, same, test, totals, until
+from writes import TO_FILES, answering, needs_strace
 
 SECONDS = r"\d+ s"
 
@@ -154,6 +156,37 @@ def entries_lost_as_they_leave_a_queue(room):
     same("lines of the queue", (len(lines), lines[0], bool(re.fullmatch(rf"syc: main queue lost 3 in {SECONDS}", lines[-1]))),
          (2, "syc: main queue loses", True))
     relay.stop()
+
+
+# ---- What is over within a second of the line before, as the relay ends
+
+@test
+def failure_that_is_over_just_before_the_end(room):
+    needs_strace(room)
+    room.write("audit.log", "")
+    relay, port = failing_hub(room, "", under=answering(room, TO_FILES, "EIO", "1+2", "audit.log"))
+    both = fails("audit", "error 5"), works("audit")
+    send_all(port, messages(1))
+    tells(relay, *both)
+    send_all(port, messages(1, 1))
+    room.holds("audit.log", messages(2))
+    relay.stop()
+    tells(relay, *both, *both)
+
+
+@test
+def input_that_was_held_and_lost_just_before_the_end(room):
+    relay, port, _ = stuck(room, "off", size=4, timeoutEnqueue=20)
+    send_all(port, messages(6))
+    held_up, loses, lost = f"syc: input {port} held: full queue", f"syc: input {port} loses", rf"syc: input {port} lost 2 in {SECONDS}"
+    goes_on, fail = rf"syc: input {port} goes on after {SECONDS}", fails("up", "connection refused")
+    tells(relay, fail, held_up, loses, goes_on, lost)
+    send_all(port, messages(2))
+    relay.stop()
+    # (that it loses is told where a second has passed in between)
+    last = [it for it in told(relay)[5:] if it != loses]
+    same("the last lines", [bool(re.fullmatch(*it)) for it in zip([held_up, goes_on, lost], last)], [True] * 3)
+    same("how many these are", len(last), 3)
 
 
 def at(sender):

@@ -15,7 +15,7 @@ use sy_inputs::serving::Serving;
 use sy_log::at_port::end_words;
 use sy_log::lines::{peer_line, subject_line};
 use sy_log::log::Log;
-use sy_log::notices::{Line, Reported};
+use sy_log::notices::{LAST_LINES, Line, Reported};
 use sy_log::subject::Subject;
 use sy_outlets::rotation::troubles::earlier;
 use sy_wire::Sink;
@@ -132,10 +132,11 @@ fn finish_one<R: Wait, E: Sink + Drop>(
         return;
     };
     reported.see(now, subject.seen());
-    for _ in 0..2 {
-        if let Some(line) = reported.last_line() {
-            report_subject(rt, alloc, serving, subject, line);
-        }
+    for _ in 0..LAST_LINES {
+        let Some(line) = reported.last_line() else {
+            break;
+        };
+        report_subject(rt, alloc, serving, subject, line);
     }
     report_ended(rt, alloc, serving, subject, number);
 }

@@ -4,6 +4,9 @@ use crate::pauses::Pace;
 use crate::spell::Spell;
 use crate::subject::Seen;
 
+/// How many lines may be left to be told of one as the relay ends: that it fails, that it works, and what it lost.
+pub const LAST_LINES: u32 = 3;
+
 /// A line about an action, an input or a queue.
 #[derive(Clone, Copy)]
 pub enum Line {
@@ -107,9 +110,10 @@ impl Reported {
         self.pace.next
     }
 
-    /// A line that is told as the relay ends, before it is due.
+    /// A line that is told as the relay ends, before it is due; none once all is told, after `LAST_LINES` at most. What began and
+    /// isn't told yet is told also where it is over, and its end then is.
     pub fn last_line(&mut self) -> Option<Line> {
-        if self.trouble.begins() && self.seen.on > 0 {
+        if self.trouble.begins() {
             self.trouble.report();
             return Some(Line::Begins);
         }

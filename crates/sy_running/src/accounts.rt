@@ -72,7 +72,14 @@ pub fn with_owners(
     let archive = does.archive(action);
     let (user, group) = (does.owner(action), does.group(action));
     let owner = number_by(host, USERS, archive.owner, user, action, OpenFault::NoUser)?;
-    let group = number_by(host, GROUPS, archive.group, group, action, OpenFault::NoGroup)?;
+    let group = number_by(
+        host,
+        GROUPS,
+        archive.group,
+        group,
+        action,
+        OpenFault::NoGroup,
+    )?;
     Ok(ArchiveHost {
         is_synced: archive.is_synced,
         create_mode: archive.create_mode,

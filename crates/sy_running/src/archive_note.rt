@@ -14,8 +14,8 @@ use sy_report::texts::reason::Reason;
 use sy_rules::Destination;
 use sy_site::Site;
 
-/// An archive that can't be opened: the number of its action, the fault, the reason where the host gave one, and the folder in which names that aren't
-/// absolute are looked for, where that is known.
+/// An archive that can't be opened: the number of its action, why, the reason where the host gave one, and the folder in which
+/// names that aren't absolute are looked for, where that is known.
 #[derive(Clone, Copy)]
 pub struct Unopened<'a> {
     pub action: usize,
@@ -62,13 +62,20 @@ fn push_owner(note: &mut Note, site: &Site, relay: u32, owner: Owner) {
     note.change.say("the name of another file");
 }
 
-// Says that what has an archive's name is no regular file.
-fn push_other(note: &mut Note) {
+// Says that it is no regular file.
+fn push_not_regular(note: &mut Note) {
     note.why.say(" is there, and is no regular file");
     note.change.say("the name of a file, or fileType=\"any\" where a FIFO or a device is meant");
 }
 
-// Accounts of a kind: what they are, the table that has them, and what gives one of them a number.
+// Says that another process writes to it.
+fn push_locked(note: &mut Note, name: &[u8], folder: Option<&str>) {
+    note.why.say(": another process writes to it");
+    push_folder(&mut note.why, name, folder);
+    note.change.say("the name of another file, or stop that process, which fuser names");
+}
+
+/// Accounts of a kind: what they are, the table that has them, and what to change.
 struct Accounts {
     kind: &'static [u8],
     table: &'static str,
@@ -94,9 +101,8 @@ fn push_no_account(
     reason: Option<Reason>,
     of: &Accounts,
 ) -> Result<(), AllocError> {
-    let table = Part::Text(of.table.as_bytes());
-    note.why
-        .append(&[Part::Text(b" is for a "), Part::Text(of.kind)]);
+    let (kind, table) = (Part::Text(of.kind), Part::Text(of.table.as_bytes()));
+    note.why.append(&[Part::Text(b" is for a "), kind]);
     if reason.is_some() {
         note.why.append(&[Part::Text(b", and "), table, Part::Text(b" can't be read")]);
         push_reason(alloc, &mut note.why, reason)?;
@@ -108,30 +114,8 @@ fn push_no_account(
     Ok(())
 }
 
-// Says why a file can't be opened for appending.
-fn push_unopened(
-    alloc: Global,
-    note: &mut Note,
-    (site, relay): (&Site, u32),
-    name: &[u8],
-    why: Unopened<'_>,
-) -> Result<(), AllocError> {
-    note.why.append(&[Part::Text(name)]);
-    if let Some(owner) = why.owner {
-        push_owner(note, site, relay, owner);
-        return Ok(());
-    }
-    match why.fault {
-        OpenFault::NotRegular => push_other(note),
-        OpenFault::NoUser => push_no_account(alloc, note, why.reason, &OF_USERS)?,
-        OpenFault::NoGroup => push_no_account(alloc, note, why.reason, &OF_GROUPS)?,
-        OpenFault::Write | OpenFault::NoMemory => push_refused(alloc, note, name, why)?,
-    }
-    Ok(())
-}
-
-// Says why the host doesn't open a file.
-fn push_refused(
+// Says why the host doesn't open a file for appending.
+fn push_of_host(
     alloc: Global,
     note: &mut Note,
     name: &[u8],
@@ -164,6 +148,26 @@ fn push_refused(
             push_reason(alloc, &mut note.why, why.reason)?;
             note.change.say("another file, or another disk");
         }
+    }
+    Ok(())
+}
+
+// Says why a file isn't opened for appending.
+fn push_unopened(
+    alloc: Global,
+    note: &mut Note,
+    (site, relay): (&Site, u32),
+    name: &[u8],
+    why: Unopened<'_>,
+) -> Result<(), AllocError> {
+    note.why.append(&[Part::Text(name)]);
+    match (why.owner, why.fault) {
+        (Some(owner), _) => push_owner(note, site, relay, owner),
+        (None, OpenFault::NotRegular) => push_not_regular(note),
+        (None, OpenFault::Locked) => push_locked(note, name, why.folder),
+        (None, OpenFault::NoUser) => push_no_account(alloc, note, why.reason, &OF_USERS)?,
+        (None, OpenFault::NoGroup) => push_no_account(alloc, note, why.reason, &OF_GROUPS)?,
+        (None, OpenFault::Write | OpenFault::NoMemory) => push_of_host(alloc, note, name, why)?,
     }
     Ok(())
 }

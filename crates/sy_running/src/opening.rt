@@ -50,28 +50,16 @@ pub struct Opened {
 
 // Tells why there are no devices, and answers the exit status.
 fn no_devices<E: Sink>(errors: &mut E, fault: OpenFault) -> u8 {
-    match fault {
-        OpenFault::Write => stop::write_failed(errors),
-        OpenFault::NotRegular => {
-            report_texts(errors, &[b"syc: an archive is no regular file\n"]);
-            4
-        }
-        OpenFault::NoUser => {
-            report_texts(
-                errors,
-                &[b"syc: an archive is for a user that this host doesn't have\n"],
-            );
-            4
-        }
-        OpenFault::NoGroup => {
-            report_texts(
-                errors,
-                &[b"syc: an archive is for a group that this host doesn't have\n"],
-            );
-            4
-        }
-        OpenFault::NoMemory => stop::out_of_memory(errors),
-    }
+    let line: &[u8] = match fault {
+        OpenFault::Write => return stop::write_failed(errors),
+        OpenFault::NoMemory => return stop::out_of_memory(errors),
+        OpenFault::NotRegular => b"syc: an archive is no regular file\n",
+        OpenFault::Locked => b"syc: another process writes to an archive\n",
+        OpenFault::NoUser => b"syc: an archive is for a user that this host doesn't have\n",
+        OpenFault::NoGroup => b"syc: an archive is for a group that this host doesn't have\n",
+    };
+    report_texts(errors, &[line]);
+    4
 }
 
 // Tells that an archive's file is somebody's already, and answers the exit status.

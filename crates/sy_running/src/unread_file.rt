@@ -87,6 +87,7 @@ fn change_for(why: Refusal) -> &'static str {
         Refusal::NoName => "a name in UTF-8",
         Refusal::Twice => "the same name for it everywhere, or another file",
         Refusal::NotRegular => "the name of a file",
+        Refusal::Locked => "the name of another file",
         Refusal::Host(_) => {
             "let the user that starts syc write it (StateDirectory= or ReadWritePaths= of a unit), or another name"
         }

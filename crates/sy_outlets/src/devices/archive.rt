@@ -19,7 +19,8 @@ use sy_report::texts::reason::Reason;
 use sy_wire::Message;
 
 /// The file of an archive, to whose end lines are written, and which is opened anew where this was asked for since its
-/// last offer. Where it can't be opened, lines go on to the one that is open, and the next offer tries again.
+/// last offer. Where it can't be opened, lines go on to the one that is open, or to none after a failed sync, and the next
+/// offer tries again.
 #[derive(Drop)]
 pub struct Archive {
     file: Arc<Rotated>,
@@ -126,6 +127,7 @@ impl Archive {
         let file = match open_file(&rt, name.as_str(), does) {
             Ok(file) => file,
             Err(Unopened::NotRegular) => return Err(OpenFault::NotRegular),
+            Err(Unopened::Locked) => return Err(OpenFault::Locked),
             Err(Unopened::Host(error)) => {
                 log.because(Reason::of(&error));
                 return Err(OpenFault::Write);

@@ -42,6 +42,8 @@ pub enum OpenFault {
     /// Its owner, or its group, is none of this host.
     NoUser,
     NoGroup,
+    /// Another process writes to it.
+    Locked,
     NoMemory,
 }
 

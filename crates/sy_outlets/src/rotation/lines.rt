@@ -14,6 +14,7 @@ fn say_refusal(alloc: Global, words: &mut Words, refusal: Refusal) -> Result<(),
         Refusal::NoName => words.say("its name isn't UTF-8"),
         Refusal::Twice => words.say("it is an unread file by another name too"),
         Refusal::NotRegular => words.say("it is no regular file"),
+        Refusal::Locked => words.say("another process writes to it"),
         Refusal::Host(reason) => {
             let mut text = Vec::new(alloc);
             reason.append(alloc, &mut text)?;
@@ -30,6 +31,19 @@ pub fn refusal_text(alloc: Global, refusal: Refusal) -> Result<Vec<u8>, AllocErr
     words.finish()
 }
 
+// Says that it can't be opened anew.
+fn say_refused(
+    alloc: Global,
+    words: &mut Words,
+    path: &[u8],
+    refusal: Refusal,
+) -> Result<(), AllocError> {
+    words.say(" can't reopen ");
+    words.append_in_line(path);
+    words.say(": ");
+    say_refusal(alloc, words, refusal)
+}
+
 fn say_notice(
     alloc: Global,
     words: &mut Words,
@@ -38,11 +52,12 @@ fn say_notice(
 ) -> Result<(), AllocError> {
     match notice {
         Notice::Is(Trouble::Refused(refusal)) => {
-            words.say(" can't reopen ");
-            words.append_in_line(path);
-            words.say(": ");
-            say_refusal(alloc, words, refusal)?;
+            say_refused(alloc, words, path, refusal)?;
             words.say("; lines go on to the file that was renamed");
+        }
+        Notice::Is(Trouble::Closed(refusal)) => {
+            say_refused(alloc, words, path, refusal)?;
+            words.say("; no line is written until it can be");
         }
         Notice::Is(Trouble::Nameless) => words.say(" writes to a file that has no name any more"),
         Notice::Reopened => {

@@ -1,6 +1,6 @@
 //! Opening the file of an archive.
 
-use std::fs::{self, File, Files, Metadata, OpenOptions};
+use std::fs::{self, File, Files, Metadata, OpenOptions, TryLockError};
 use std::io::{self, Error, ErrorKind, Read, Seek, SeekFrom, Write};
 use std::os::fd::AsFd;
 use std::os::unix::fs::{FileTypeExt, MetadataExt, OpenOptionsExt, fchown};
@@ -26,6 +26,8 @@ pub enum Refusal {
     Twice,
     /// What has its name is no regular file, and is to be one.
     NotRegular,
+    /// Another process has the lock on it.
+    Locked,
     Host(Reason),
 }
 
@@ -46,6 +48,7 @@ impl Refusal {
             Refusal::NoName => u64::MAX - 3,
             Refusal::Twice => u64::MAX - 4,
             Refusal::NotRegular => u64::MAX - 5,
+            Refusal::Locked => u64::MAX - 6,
             Refusal::Host(reason) => reason.code(),
         }
     }
@@ -134,6 +137,7 @@ fn may_be_torn(rt: &HostRuntime, name: &str, file: &File) -> bool {
 #[derive(Drop)]
 pub enum Unopened {
     NotRegular,
+    Locked,
     Host(Error),
 }
 
@@ -142,6 +146,7 @@ impl Unopened {
     pub fn refusal(&self) -> Refusal {
         match self {
             Unopened::NotRegular => Refusal::NotRegular,
+            Unopened::Locked => Refusal::Locked,
             Unopened::Host(error) => Refusal::of(error),
         }
     }
@@ -230,29 +235,56 @@ fn open_or_make(rt: &HostRuntime, name: &str, does: ArchiveHost) -> io::Result<F
         .open(rt, name)
 }
 
-// Opens a file for appending, with what its host is to do for it.
-fn open_by(rt: &HostRuntime, name: &str, does: ArchiveHost) -> io::Result<File> {
+// The same, in folders that are made where that is asked for.
+fn open_in_folder(rt: &HostRuntime, name: &str, does: ArchiveHost) -> io::Result<File> {
     if does.makes_folders {
         make_folders(rt, name, does.is_synced)?;
     }
-    let mut file = open_or_make(rt, name, does)?;
-    if may_be_torn(rt, name, &file) {
+    open_or_make(rt, name, does)
+}
+
+// Takes the lock on a file, and answers whether no other process has it. What may be any file isn't locked: it may be shared. Nor
+// is one of a file system without locks: that is no reason to write nothing.
+fn is_own(file: &File, does: ArchiveHost) -> bool {
+    match file.metadata() {
+        Ok(about) if about.is_file() && !does.may_be_any => {
+            !matches!(file.try_lock(), Err(TryLockError::WouldBlock))
+        }
+        _ => true,
+    }
+}
+
+// Ends a line that is torn, and has the disk keep that the file is in its folder, where that is asked for.
+fn begin(rt: &HostRuntime, name: &str, file: &mut File, does: ArchiveHost) -> io::Result<()> {
+    if may_be_torn(rt, name, file) {
         file.write_all(b"\n")?;
     }
     if does.is_synced {
         sync_folder(rt, name)?;
     }
-    Ok(file)
+    Ok(())
+}
+
+// Opens a file for appending, with what its host is to do for it. Of a file that is another's nothing is changed.
+fn open_by(rt: &HostRuntime, name: &str, does: ArchiveHost) -> Result<File, Unopened> {
+    let mut file = match open_in_folder(rt, name, does) {
+        Ok(file) => file,
+        Err(error) => return Err(Unopened::Host(error)),
+    };
+    if !is_own(&file, does) {
+        return Err(Unopened::Locked);
+    }
+    match begin(rt, name, &mut file, does) {
+        Ok(()) => Ok(file),
+        Err(error) => Err(Unopened::Host(error)),
+    }
 }
 
 /// The file of that name, to whose end lines are written. Where it ends in the middle of a line, or that isn't known, a line
-/// feed is written first.
+/// feed is written first. No other process has it so: its lock ends as it is closed.
 pub fn open_file(rt: &HostRuntime, name: &str, does: ArchiveHost) -> Result<File, Unopened> {
     if !does.may_be_any && is_other(rt, name) {
         return Err(Unopened::NotRegular);
     }
-    match open_by(rt, name, does) {
-        Ok(file) => Ok(file),
-        Err(error) => Err(Unopened::Host(error)),
-    }
+    open_by(rt, name, does)
 }

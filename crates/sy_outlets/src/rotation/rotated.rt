@@ -27,9 +27,23 @@ pub struct Known {
     /// The last request for which that was tried, and the last for which it was done.
     pub tried: u64,
     pub followed: u64,
-    /// Why the last try failed.
+    /// Why the last try failed, and whether no file was open then, so that lines wait.
     pub refusal: Option<Refusal>,
+    pub is_closed: bool,
     pub node: Option<Node>,
+}
+
+impl Known {
+    // The file of that node is open, for requests up to this one.
+    fn of_open(asked: u64, node: Option<Node>) -> Known {
+        Known {
+            tried: asked,
+            followed: asked,
+            refusal: None,
+            is_closed: false,
+            node,
+        }
+    }
 }
 
 /// What is written to a file: lines, with what the host is to do for it, or whole frames.
@@ -54,6 +68,14 @@ pub struct Writer {
 }
 
 impl Writer {
+    // To none.
+    fn closed() -> Writer {
+        Writer {
+            lines: None,
+            frames: None,
+        }
+    }
+
     /// To this file.
     pub fn new(alloc: Global, form: Form, file: File, log: ActionLog) -> Writer {
         match form {
@@ -125,12 +147,7 @@ impl Rotated {
         logs: (ActionLog, ActionLog),
     ) -> Rotated {
         let (log, theirs) = logs;
-        let known = Known {
-            tried: followed,
-            followed,
-            refusal: None,
-            node: node_of_file(&file),
-        };
+        let known = Known::of_open(followed, node_of_file(&file));
         let writer = Writer::new(alloc, form, file, theirs);
         Rotated {
             rt,
@@ -177,7 +194,10 @@ impl Rotated {
         };
         let is_new = match now.refusal {
             Some(refusal) => {
-                known.refusal.is_none() || known.tried != now.tried || code != refusal.code()
+                known.refusal.is_none()
+                    || known.tried != now.tried
+                    || known.is_closed != now.is_closed
+                    || code != refusal.code()
             }
             None => true,
         };
@@ -220,29 +240,24 @@ impl Rotated {
         };
         if self.stays(open, node) {
             open.followed = asked;
-            return self.note(Known {
-                tried: asked,
-                followed: asked,
-                refusal: None,
-                node,
-            });
+            return self.note(Known::of_open(asked, node));
+        }
+        if open.is_doubtful {
+            // (it may be opened anew by the same name, and its lock has to be let go before)
+            open.writer = Writer::closed();
         }
         match self.open_anew() {
             Ok((writer, node)) => {
                 open.writer = writer;
                 open.followed = asked;
                 open.is_doubtful = false;
-                self.note(Known {
-                    tried: asked,
-                    followed: asked,
-                    refusal: None,
-                    node,
-                })
+                self.note(Known::of_open(asked, node))
             }
             Err(refusal) => self.note(Known {
                 tried: asked,
                 followed: open.followed,
                 refusal: Some(refusal),
+                is_closed: open.is_doubtful,
                 node,
             }),
         }
@@ -268,12 +283,7 @@ impl Rotated {
             return;
         }
         open.followed = asked;
-        let _ = self.note(Known {
-            tried: asked,
-            followed: asked,
-            refusal: None,
-            node: known.node,
-        });
+        let _ = self.note(Known::of_open(asked, known.node));
     }
 
     /// What lines are written to, once nobody else has it: opened anew for requests up to this one, where it can be. Beside it

@@ -18,6 +18,8 @@ const AGAIN: u64 = 60_000;
 pub enum Trouble {
     /// It can't be opened anew.
     Refused(Refusal),
+    /// Nor is the one that was open, a sync of which failed: it is closed.
+    Closed(Refusal),
     /// Its name is gone, or is another file's.
     Nameless,
 }
@@ -52,12 +54,13 @@ pub struct Troubles {
     is_nameless: bool,
 }
 
-// A number for each kind of trouble, and for each reason.
-fn kind_of(trouble: Option<Trouble>) -> u64 {
+// A number for each kind of trouble, and one for each reason.
+fn kind_of(trouble: Option<Trouble>) -> (u64, u64) {
     match trouble {
-        None => 0,
-        Some(Trouble::Nameless) => 1,
-        Some(Trouble::Refused(refusal)) => refusal.code().saturating_add(2),
+        None => (0, 0),
+        Some(Trouble::Nameless) => (1, 0),
+        Some(Trouble::Refused(refusal)) => (2, refusal.code()),
+        Some(Trouble::Closed(refusal)) => (3, refusal.code()),
     }
 }
 
@@ -97,6 +100,7 @@ impl Troubles {
     // What is wrong, as far as was seen.
     fn trouble(&self, known: &Known) -> Option<Trouble> {
         match known.refusal {
+            Some(refusal) if known.is_closed => Some(Trouble::Closed(refusal)),
             Some(refusal) => Some(Trouble::Refused(refusal)),
             None if self.is_nameless => Some(Trouble::Nameless),
             None => None,
@@ -181,7 +185,9 @@ impl Troubles {
         if !is_due(self.line_at(known), now) || !self.pace.take(now) {
             return None;
         }
-        let is_new = known.followed != self.followed;
+        // (what was closed is opened anew without a request too)
+        let is_new = known.followed != self.followed
+            || matches!(self.reported, Some(Trouble::Closed(_)));
         self.reported = self.trouble(known);
         self.tried = known.tried;
         self.followed = known.followed;
