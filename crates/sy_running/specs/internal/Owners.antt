@@ -1,7 +1,9 @@
 -- Whose the file of an archive is that is made (this profile's own).
 use Rattle.std.specs.Prelude.{◌≡◌, ℕ, List, Option, None, Some}
 pub use Rattle.sy_host_parameters.specs.Accounts.{account_number}
-use Rattle.sy_host_parameters.specs.Hosts.{ArchiveHost, RelayHost, archive_at, group_at, owner_at}
+use Rattle.sy_host_parameters.specs.Hosts.{archive_at, group_at, owner_at}
+use Rattle.sy_host_parameters.specs.declared.host.ArchiveHost.{ArchiveHost}
+use Rattle.sy_host_parameters.specs.declared.host.RelayHost.{RelayHost}
 
 -- A number that is given holds. A name that is given alone is that of an account in a table, and there is nothing else.
 abbrev pub IsAccount : (number : Option ℕ) (name : Option (List ℕ)) (found : Option ℕ) → Type 0
