@@ -63,6 +63,8 @@ def all_addresses_of_this_host(room):
 @test
 def port_of_another_relay(room):
     relay, port = room.hub()
+    # (an archive that is another relay's would be refused before)
+    hub_files(room, port, "other.log")
     refuses(room, ["site", "hub"], 4, "", f"syc: 72 Bind at {port}\n")
     send_all(port, messages(3))
     room.holds("audit.log", messages(3))
